@@ -1,19 +1,14 @@
 -- Blocks that are compared one after the other.
-use Rattle.std.proofs.Common.{◌≡◌, ℕ, ◌+◌, ◌<◌, List, [], ◌∷◌, Option, None, length, sym, inl, inr, arith, below_more}
+use Rattle.std.proofs.Common.{ℕ, ◌+◌, ◌<◌, List, [], ◌∷◌, Option, None, length, sym, inl, inr, arith, below_more}
 use Rattle.losses.specs.Losses.{IsBefore}
 use Rattle.partition.specs.Fti.{block_count, source_count}
 use Rattle.certificate.specs.Certificate.{Certificate}
 use Rattle.cert.specs.NotGiven.{IsFirstInBlock}
 use Rattle.cert.specs.Tallying.{Tallied}
 use Rattle.cert.specs.Verdict.{GivesAt, IsFirstNotGiven}
-use Rattle.cert.specs.declared.verdict.Reason.TheVariants.{OtherCertificate, ObjectLength, NotObject, Empty, Packet as NoPacket, OtherFti, SymbolLength, Range, Symbol, Thin, NoCarrier}
 use Rattle.file_check.specs.Blocks.{AreSaid, limit_of}
-use Rattle.file_check.specs.Checked.{IsBlockStop, IsBlocksStop}
-use Rattle.file_check.specs.Files.{Reliable}
 use Rattle.file_check.specs.Compared.{AreCompared, IsCompared}
 use Rattle.file_check.specs.declared.blocks.Wrong.{Wrong}
-use Rattle.cert.specs.declared.fault.NoReport.{NoReport}
-use Rattle.cert.specs.declared.fault.NoReport.TheVariants as why
 
 module _ (z : Certificate) (o : List ℕ) (t : Tallied) (ds : List (List ℕ)) where
   pub none_yet : AreCompared z o t ds 0 None
@@ -35,31 +30,17 @@ module _ (z : Certificate) (o : List ℕ) (t : Tallied) (ds : List (List ℕ)) w
         }
 
     -- the first source point that isn't given in a block is the first of all, where those before give the object
-    first_of_all : (b c i : ℕ) → n < block_count z.fti → b ≡ n → IsFirstInBlock o z b c i → IsFirstNotGiven o z b c i
-    first_of_all b c i inside is h = record {
-      block = rw is inside;
+    pub first_of_all : (c i : ℕ) → n < block_count z.fti → IsFirstInBlock o z n c i → IsFirstNotGiven o z n c i
+    first_of_all c i inside h = record {
+      block = inside;
       column = h.column;
       symbol = h.first.symbol;
       wrong = h.first.wrong;
       before = λ x y m low ly lm. by x y m low ly lm;
     }
       where
-        by : (x y m : ℕ) → IsBefore (x ∷ y ∷ m ∷ []) (b ∷ c ∷ i ∷ []) → y < z.fti.symbol_length → m < source_count z.fti x → GivesAt o z x y m
-        by x y m (inl l) ly lm = so_far.gives x (rw (sym is) l) y m ly lm
+        by : (x y m : ℕ) → IsBefore (x ∷ y ∷ m ∷ []) (n ∷ c ∷ i ∷ []) → y < z.fti.symbol_length → m < source_count z.fti x → GivesAt o z x y m
+        by x y m (inl l) ly lm = so_far.gives x l y m ly lm
         by x y m (inr (e, inl l)) ly lm = rw e (h.columns_before y m l (rw (sym e) lm))
         by x y m (inr (e, inr (f, inl l))) ly lm = rw (e, f) (h.first.symbols_before m l)
         by x y m (inr (e, inr (f, inr (k, none)))) ly lm = absurd none
-
-    pub stopped : (reliable : Reliable) (s : NoReport) → n < block_count z.fti → IsBlockStop reliable o z n s → IsBlocksStop reliable o z s
-    stopped reliable (why.Fault fault) inside h = h
-    stopped reliable (why.Reason (NotObject b c i)) inside h = first_of_all b c i inside h.0 (rw h.0 h.1)
-    stopped reliable (why.Reason OtherCertificate) inside h = absurd h
-    stopped reliable (why.Reason ObjectLength) inside h = absurd h
-    stopped reliable (why.Reason Empty) inside h = absurd h
-    stopped reliable (why.Reason (NoPacket i r)) inside h = absurd h
-    stopped reliable (why.Reason (OtherFti i)) inside h = absurd h
-    stopped reliable (why.Reason (SymbolLength i)) inside h = absurd h
-    stopped reliable (why.Reason (Range i)) inside h = absurd h
-    stopped reliable (why.Reason (Symbol i c)) inside h = absurd h
-    stopped reliable (why.Reason (Thin b have need)) inside h = absurd h
-    stopped reliable (why.Reason NoCarrier) inside h = absurd h

@@ -13,7 +13,7 @@ use Rattle.alc.specs.Computed.{read_of}
 use Rattle.alc.proofs.Again.{exact}
 use Rattle.partition.specs.Fti.{Fti, encoding_count}
 use Rattle.reception.specs.declared.scope.Scope.{Scope}
-use Rattle.reception.specs.declared.scope.PlaceFault.{PlaceFault}
+use Rattle.alc.specs.declared.fault.PacketFault.{PacketFault}
 use Rattle.reception.specs.declared.scope.Look.{Look}
 use Rattle.reception.specs.Reception.{look, symbol_of}
 use Rattle.reception.specs.declared.scope.Look.TheVariants as look_at
@@ -37,7 +37,7 @@ whole x e n buf long all stands =
     (rw same at stands) ∙ ap (λ (k : ℕ). take k (drop e.offset x)) long
 
 -- what it is where the FTI is known
-pub seen : (scope : Scope) (d : List ℕ) (new : Scope) (answer : Result Look PlaceFault) → is_some scope.fti ≡ true → IsLook d scope new answer → look scope (read_of d) ≡ looked answer
+pub seen : (scope : Scope) (d : List ℕ) (new : Scope) (answer : Result Look PacketFault) → is_some scope.fti ≡ true → IsLook d scope new answer → look scope (read_of d) ≡ looked answer
 seen scope d new answer known at =
     let h = look_known d scope new answer known at in
     ap (λ (r : Reading). look scope r) (exact d h.reading h.reads) ∙ sym h.told

@@ -2,7 +2,7 @@
 use Rattle.std.proofs.Common.{◌≡◌, ◌∙◌, ◌++◌, ℕ, true, List, Option, Some, None, map, sym, ap, subst}
 use Rattle.std.specs.Io.KnownBytes.{Consumes, IsAtEnd}
 use Rattle.std.proofs.lemmas.List.{append-nil}
-use Rattle.losses.specs.Groups.{Group, groups_of, group_at}
+use Rattle.losses.specs.Groups.{groups_of, group_at}
 use Rattle.losses.specs.declared.groups.Member.{Member}
 use Rattle.partition.specs.Fti.{Fti}
 use Rattle.session.specs.Frames.{frames, AreDatagrams, IsFramed}
@@ -12,25 +12,20 @@ use Rattle.reception.specs.Reception.{counted, symbols}
 use Rattle.reception.specs.Symbols.{IsObject}
 use Rattle.reception.specs.Walks.{readings_of}
 use Rattle.certificate.specs.Certificate.{Certificate, IsCertificate, is_for}
-use Rattle.cert.specs.Scan.{IsFirstShortGroup, IsNoReport, IsShortWhereThin}
+use Rattle.cert.specs.Scan.{IsFirstShortGroup}
 use Rattle.cert.specs.Twins.{IsTwinOfSession, esis_of}
-use Rattle.cert.specs.Verdict.{GivesObject}
+use Rattle.cert.specs.Verdict.{GivesObject, IsAgainst}
 use Rattle.cert.specs.declared.tally.Tally.{Tally}
 use Rattle.cert.specs.declared.verdict.Reason.{Reason}
 use Rattle.cert.specs.declared.verdict.Reason.TheVariants.{OtherCertificate, ObjectLength, NotObject, Empty, Packet as NoPacket, OtherFti, SymbolLength, Range, Symbol, Thin, NoCarrier}
 use Rattle.cert.specs.declared.verdict.Verdict.{Verdict}
 use Rattle.cert.specs.declared.verdict.Verdict.TheVariants.{Yes, No}
-use Rattle.cert.specs.declared.fault.NoReport.TheVariants.{Reason as ByReason}
 use Rattle.cert.proofs.HeldEsis.{held_esis, few_in_group}
 use Rattle.cert.proofs.Judging.{read_all, refused}
 use Rattle.cert.proofs.Short.{twin_of_session}
 use Rattle.file_check.specs.Checked.{IsSomeTally, IsWholeTally}
 use Rattle.file_check.specs.Shortness.{IsShortFound, MakesTwins}
 use Rattle.file_check.specs.declared.checking.ShortBlock.{ShortBlock}
-
--- the group that is short
-pub is_short : (groups : List Group) (r : Reason) (b have need : ℕ) → r ≡ Thin b have need → IsShortWhereThin groups (ByReason r) → IsFirstShortGroup groups b have need
-is_short groups r b have need e h = subst (λ (x : Reason). IsShortWhereThin groups (ByReason x)) e h
 
 -- all frames of a file were read
 framed_by : (x : List ℕ) (left : Option (List ℕ)) (ds : List (List ℕ)) → Consumes (Some x) left (frames ds) → IsAtEnd left → AreDatagrams ds → IsFramed ds x
@@ -70,7 +65,7 @@ none_made who session object z (No NoCarrier) = tt
 module _ (who : Identity) (x o : List ℕ) (z : Certificate) (valid : IsCertificate z) (name : is_for who z.name ≡ true) (form : IsObject z.fti o) (gives : GivesObject o z) (tally : Tally)
     (w : IsWholeTally who x z tally) where
   -- a twin made for what came is one of the session
-  pub twins_made : (r : Reason) (b have need : ℕ) → r ≡ Thin b have need → IsFirstShortGroup (groups_of tally.groups) b have need → IsNoReport who w.datagrams z (ByReason r)
+  pub twins_made : (r : Reason) (b have need : ℕ) → r ≡ Thin b have need → IsFirstShortGroup (groups_of tally.groups) b have need → IsAgainst who (readings_of w.datagrams) z r
       → (short : ShortBlock) → short.fti ≡ z.fti → short.arrived_esis.items ≡ map (λ (q : Member). q.esi) (group_at (groups_of tally.groups) b).members
       → MakesTwins who x o z (No r) (Some short)
   twins_made r b have need e h against short fti esis =
@@ -79,7 +74,7 @@ module _ (who : Identity) (x o : List ℕ) (z : Certificate) (valid : IsCertific
       let inside = (few_in_group who z.fti w.datagrams (groups_of tally.groups) grouped b have need h).0 in
       let came : short.arrived_esis.items ≡ esis_of b (symbols (counted who (readings_of w.datagrams))) =
       esis ∙ held_esis z.fti (counted who (readings_of w.datagrams)) (groups_of tally.groups) b grouped inside in
-      let thin = subst (λ (y : Reason). IsNoReport who w.datagrams z (ByReason y)) e against in
+      let thin = subst (λ (y : Reason). IsAgainst who (readings_of w.datagrams) z y) e against in
       subst (λ (y : Reason). MakesTwins who x o z (No y) (Some short)) (sym e) (
         fti,
         λ all other framed twin.

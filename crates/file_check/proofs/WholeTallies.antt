@@ -1,5 +1,5 @@
 -- What the index of a session and its comparison with a certificate say of the verdict.
-use Rattle.std.proofs.Common.{◌≡◌, ℕ, zero, suc, ◌+◌, ◌<◌, Bool, true, false, not, List, [], ◌∷◌, ◌++◌, Option, Some, None, Err, length, take, drop, refl, sym, ap, subst, ◌∙◌, append_assoc, arith}
+use Rattle.std.proofs.Common.{◌≡◌, ℕ, zero, suc, ◌+◌, ◌<◌, Bool, true, false, not, List, [], ◌∷◌, ◌++◌, Option, Some, None, length, inl, inr, take, drop, refl, sym, ap, subst, ◌∙◌, append_assoc, arith}
 use Rattle.std.specs.Io.KnownBytes.{Consumes}
 use Rattle.std.proofs.lemmas.Grind.{flat_map-append}
 use Rattle.std.proofs.lemmas.List.{length-take-le, take-append-drop}
@@ -10,37 +10,41 @@ use Rattle.session.specs.declared.frame.FrameFault.TheVariants.{NoMemory as NoFr
 use Rattle.session.proofs.Sessions.{datagrams_push}
 use Rattle.partition.specs.Fti.{IsValidFti, block_count}
 use Rattle.reception.specs.declared.scope.Identity.{Identity}
-use Rattle.reception.specs.declared.scope.PlaceFault.{PlaceFault}
-use Rattle.reception.specs.Reception.{Faulty}
+use Rattle.reception.specs.declared.scope.Scope.{Scope}
+use Rattle.reception.specs.Reception as place_fault
+use Rattle.reception.specs.Reception.{Faulty, PlaceFault}
 use Rattle.reception.specs.Symbols.{IsObject}
 use Rattle.reception.specs.Walks.{readings_of}
-use Rattle.certificate.specs.Certificate.{Certificate, is_for}
+use Rattle.certificate.specs.Certificate.{Certificate, IsCertificate, is_for}
 use Rattle.cert.specs.FromReader.{IsCheckedFrom, IsRefusedBehind}
 use Rattle.cert.specs.NotBegun.{IsAgainstObject}
-use Rattle.cert.specs.NotGiven.{IsNotGiven}
-use Rattle.cert.specs.Tallying.{AreTallied, IsUnpassed, SaysNothing, Tallied, by_certificate, first_reason_by, reading_at, tallied_of}
-use Rattle.cert.specs.Verdict.{GivesObject, reason_at}
+use Rattle.cert.specs.Tallying.{AreTallied, IsRefusedAt, IsUnpassed, SaysNothing, Tallied, by_certificate, first_reason_by, reading_at, tallied_of}
+use Rattle.cert.specs.Verdict.{GivesObject, reason_at, reception_to, short_of}
 use Rattle.cert.specs.declared.verdict.Reason.{Reason}
-use Rattle.cert.specs.declared.verdict.Reason.TheVariants.{OtherCertificate, ObjectLength, NotObject, Empty, Packet as NoPacket, OtherFti, SymbolLength, Range, Symbol, Thin, NoCarrier}
+use Rattle.cert.specs.declared.verdict.Reason.TheVariants.{NotObject, Symbol}
+use Rattle.cert.specs.declared.verdict.Survey.{Survey}
+use Rattle.cert.specs.declared.verdict.Verdict.{Verdict}
 use Rattle.cert.specs.declared.verdict.Verdict.TheVariants.{No}
-use Rattle.cert.specs.declared.fault.NoReport.TheVariants.{Reason as ByReason}
-use Rattle.cert.proofs.DatagramSteps.{refuses}
-use Rattle.cert.proofs.FromReader.{no_datagrams, consumes_one, not_begun, not_passed, not_read}
+use Rattle.cert.specs.declared.tally.Tally.{Tally}
+use Rattle.cert.specs.Report.{IsReport, OnYes}
+use Rattle.cert.specs.Scan.{VerdictWhereGiven}
+use Rattle.cert.specs.Surveying.{IsSurvey, IsSurveyedFrom, OnYesWith}
+use Rattle.cert.proofs.DatagramSteps.{refuses_fault}
+use Rattle.cert.proofs.FromReader.{no_datagrams, consumes_one, not_begun, not_passed, not_read, survey_of, verdict_from}
+use Rattle.cert.proofs.Judging.{judged_given}
 use Rattle.cert.proofs.Judged.{all_passed, first_wrong}
 use Rattle.cert.proofs.Members.{said_by_blocks}
 use Rattle.file_check.specs.Blocks.{limit_of}
-use Rattle.file_check.specs.Checked.{IsBlocksStop, IsStop, IsWholeTally}
+use Rattle.file_check.specs.Checked.{IsBlocksReason, IsWholeTally}
 use Rattle.file_check.specs.Files.{Reliable, IsFileFault, IsNoVerdict}
 use Rattle.file_check.specs.Compared.{AreCompared}
 use Rattle.file_check.specs.Indexed.{EndsBy, IsIndexed, IsIndexOf}
 use Rattle.file_check.specs.declared.blocks.Wrong.{Wrong}
-use Rattle.cert.specs.declared.fault.NoReport.{NoReport}
-use Rattle.cert.specs.declared.fault.NoReport.TheVariants as why
 use Rattle.cert.specs.declared.fault.CheckFault.{CheckFault}
 use Rattle.cert.specs.declared.fault.CheckFault.TheVariants.{Frame as NoFrame, Session, Object, Certificate as NoCertificate, NoMemory}
 use Rattle.file_check.specs.declared.index.Index.{Index}
 use Rattle.file_check.specs.declared.index.End.{End}
-use Rattle.file_check.specs.declared.index.End.TheVariants.{File, Fault, Frame}
+use Rattle.file_check.specs.declared.index.End.TheVariants.{File, Reason as ByReason, Frame}
 
 -- ---- the front of a session
 
@@ -80,34 +84,26 @@ equal true h = refl
 equal false h = absurd (cc)
 
 module _ (who : Identity) (x o : List ℕ) (z : Certificate) where
-  pub before : (r : Reason) → IsAgainstObject who r o z → (left : Option (List ℕ)) × IsCheckedFrom who (Some x) left o z (No r)
-  before r h = (Some x, not_begun who (Some x) false z o (ByReason r) h)
+  pub before : (r : Reason) → IsAgainstObject who o z r → (left : Option (List ℕ)) × IsCheckedFrom who (Some x) left o z (No r)
+  before r h = (Some x, not_begun who (Some x) z o r h)
 
-  -- why not all blocks are compared
-  module _ (name : is_for who z.name ≡ true) (long : length o ≡ z.fti.transfer_length) (reliable : Reliable) where
-    by_reason : (r : Reason) → IsNotGiven o z r → (left : Option (List ℕ)) × IsCheckedFrom who (Some x) left o z (No r)
-    by_reason (NotObject b c i) h = before (NotObject b c i) (name, long, h)
-    by_reason OtherCertificate h = absurd h
-    by_reason ObjectLength h = absurd h
-    by_reason Empty h = absurd h
-    by_reason (NoPacket i e) h = absurd h
-    by_reason (OtherFti i) h = absurd h
-    by_reason (SymbolLength i) h = absurd h
-    by_reason (Range i) h = absurd h
-    by_reason (Symbol i c) h = absurd h
-    by_reason (Thin b have need) h = absurd h
-    by_reason NoCarrier h = absurd h
+  -- a file has failed
+  pub file_fault : (reliable : Reliable) (fault : CheckFault) → IsFileFault reliable fault → IsNoVerdict who reliable x o z fault
+  file_fault reliable (NoFrame e) h = absurd h
+  file_fault reliable Session h = h
+  file_fault reliable Object h = h
+  file_fault reliable (NoCertificate e) h = h
+  file_fault reliable NoMemory h = h
 
-    by_fault : (fault : CheckFault) → IsFileFault reliable fault → IsNoVerdict who reliable x o z fault
-    by_fault (NoFrame e) h = absurd h
-    by_fault Session h = h
-    by_fault Object h = h
-    by_fault (NoCertificate e) h = h
-    by_fault NoMemory h = h
+-- no block is told as short by a fault of a datagram
+early_fault : (i : ℕ) (fault : PlaceFault) → short_of (reason_at i (Faulty fault)) ≡ None
+early_fault i (place_fault.NoPacket r) = refl
+early_fault i place_fault.OtherFti = refl
+early_fault i place_fault.SymbolLength = refl
+early_fault i place_fault.Range = refl
 
-    pub stops : (e : NoReport) → IsBlocksStop reliable o z e → IsStop who reliable x o z e
-    stops (why.Reason r) h = by_reason r h
-    stops (why.Fault fault) h = by_fault fault h
+pub early_reason : (d : List ℕ) (scope : Scope) (i : ℕ) (r : Reason) → IsRefusedAt d scope i r → short_of r ≡ None
+early_reason d scope i r h = rw h.reason_is (early_fault i h.fault)
 
 -- ---- behind an index
 
@@ -133,7 +129,7 @@ module _ (who : Identity) (x o : List ℕ) (z : Certificate) (sound : Bool) (ind
     pub tallied : AreTallied (by_certificate z) z.fti (tallied_of index.tally) is.datagrams
     tallied = all_passed (by_certificate z) z.fti t ds is.tallied (λ i l. said None are i l l)
 
-    pub whole_tally : IsValidFti z.fti → EndsBy index.tally.scope is.left sound File → IsWholeTally who x z index.tally
+    pub whole_tally : IsValidFti z.fti → EndsBy index.tally is.left sound File → IsWholeTally who x z index.tally
     whole_tally valid at = record {
       datagrams = ds;
       each = is.each;
@@ -145,34 +141,32 @@ module _ (who : Identity) (x o : List ℕ) (z : Certificate) (sound : Bool) (ind
     }
 
     module _ (name : is_for who z.name ≡ true) (form : IsObject z.fti o) where
-      -- the next datagram has a fault
-      pub faulty : (fault : PlaceFault) → EndsBy index.tally.scope is.left sound (Fault fault)
-          → (left : Option (List ℕ)) × IsCheckedFrom who (Some x) left o z (No (reason_at index.tally.count (Faulty fault)))
-      faulty fault at =
+      -- there is a reason against the next datagram
+      pub refused_next : (r : Reason) → EndsBy index.tally is.left sound (ByReason r) → (left : Option (List ℕ)) × IsCheckedFrom who (Some x) left o z (No r)
+      refused_next r at =
           let d = at.0 in
           let new = at.1 in
-          let r : Reason = reason_at index.tally.count (Faulty fault) in
-          let no = refuses (by_certificate z) z.fti t ds tallied d (Err fault) at.4 (Faulty fault) refl in (
+          let no = refuses_fault (by_certificate z) z.fti t ds tallied d r at.4 in (
             new,
-            not_passed who z o name form (gives_object None are) (Some x) new false (ds ++ d ∷ []) (datagrams_push ds d is.each at.2) (consumes_one (Some x) is.left new ds d is.consumed at.3) (ByReason r)
-                (subst (λ (w : Identity). IsUnpassed (by_certificate z) z.fti w (ds ++ d ∷ []) (ByReason r)) is.identity no),
+            not_passed who z o name form (gives_object None are) (Some x) new (ds ++ d ∷ []) (datagrams_push ds d is.each at.2) (consumes_one (Some x) is.left new ds d is.consumed at.3) r
+                (subst (λ (w : Identity). IsUnpassed (by_certificate z) z.fti w (ds ++ d ∷ []) r) is.identity no),
           )
 
       -- the next frame wasn't read
-      pub refused : (fault : FrameFault) → EndsBy index.tally.scope is.left sound (Frame fault)
+      pub refused : (fault : FrameFault) → EndsBy index.tally is.left sound (Frame fault)
           → ((left : Option (List ℕ)) × (failed : Bool) × IsRefusedBehind who fault (Some x) left failed o z) × (fault ≡ Io → sound ≡ false)
       refused fault at = (
         (
           at.0.0,
           at.0.1,
-          not_read who z o name form (gives_object None are) (Some x) is.left at.0.1 ds is.each is.consumed (rw is.identity at tallied.clean) at.0.0 fault at.0.2,
+          not_read who z o name form (gives_object None are) (Some x) is.left ds is.each is.consumed (rw is.identity at tallied.clean) at.0.1 at.0.0 fault at.0.2,
         ),
         at.1,
       )
 
   -- a symbol is wrong
   module _ (wrong : Wrong) (are : AreCompared z o (tallied_of index.tally) is.datagrams (block_count z.fti) (Some wrong)) (name : is_for who z.name ≡ true) (form : IsObject z.fti o) where
-    pub wrong_symbol : (left : Option (List ℕ)) × IsCheckedFrom who (Some x) left o z (No (Symbol wrong.place wrong.column))
+    wrong_symbol : (left : Option (List ℕ)) × IsCheckedFrom who (Some x) left o z (No (Symbol wrong.place wrong.column))
     wrong_symbol =
         let p : ℕ = wrong.place in
         let w = are.is in
@@ -180,6 +174,35 @@ module _ (who : Identity) (x o : List ℕ) (z : Certificate) (sound : Bool) (ind
         let first = first_wrong (by_certificate z) z.fti t ds is.tallied p wrong.column w.packet inside (λ i l. said (Some wrong) are i l (omega (arith, l, inside))) w.look w.says in
         let front = front_consumed x is.left ds (p + 1) is.consumed in (
           front.0,
-          not_passed who z o name form (gives_object (Some wrong) are) (Some x) front.0 false (take (p + 1) ds) (front_each (p + 1) ds is.each) front.1 (ByReason (Symbol p wrong.column))
+          not_passed who z o name form (gives_object (Some wrong) are) (Some x) front.0 (take (p + 1) ds) (front_each (p + 1) ds is.each) front.1 (Symbol p wrong.column)
               (subst (λ (w : Identity). first_reason_by (by_certificate z) z.fti w (readings_of (take (p + 1) ds)) ≡ Some (Symbol p wrong.column)) is.identity first, length-take-le (p + 1) ds (omega (arith, inside))),
         )
+
+  -- not all blocks are as they should be
+  pub against_blocks : (r : Reason) → IsBlocksReason z o (tallied_of index.tally) is.datagrams r → is_for who z.name ≡ true → IsObject z.fti o
+      → (left : Option (List ℕ)) × IsCheckedFrom who (Some x) left o z (No r)
+  against_blocks r (inl h) name form =
+      subst (λ (y : Reason). (left : Option (List ℕ)) × IsCheckedFrom who (Some x) left o z (No y)) (sym h.3) (before who x o z (NotObject h.0 h.1 h.2) (name, form.count, h.4))
+  against_blocks r (inr h) name form =
+      subst (λ (y : Reason). (left : Option (List ℕ)) × IsCheckedFrom who (Some x) left o z (No y)) (sym h.1) (wrong_symbol h.0 h.2 name form)
+
+-- ---- by a whole tally
+
+module _ (who : Identity) (x o : List ℕ) (z : Certificate) (valid : IsCertificate z) (name : is_for who z.name ≡ true) (form : IsObject z.fti o) (gives : GivesObject o z) (tally : Tally)
+    (w : IsWholeTally who x z tally) (v : Verdict) (h : VerdictWhereGiven tally.scope.identity w.datagrams z v) (is : OnYes v (IsReport tally.scope.identity w.datagrams z.fti)) where
+  given : VerdictWhereGiven who w.datagrams z v
+  given = subst (λ (i : Identity). VerdictWhereGiven i w.datagrams z v) w.identity h
+
+  clean : (reception_to who z (readings_of w.datagrams)).wrong ≡ None
+  clean = rw w.identity at w.tallied.tallied.clean
+
+  told : OnYes v (IsReport who w.datagrams z.fti)
+  told = subst (λ (i : Identity). OnYes v (IsReport i w.datagrams z.fti)) w.identity is
+
+  pub verdict_in : IsCheckedFrom who (Some x) w.left o z v
+  verdict_in = verdict_from who z o name form gives (Some x) w.left w.datagrams w.each w.consumed clean v valid w.end (judged_given who w.datagrams o z v name form gives given) told
+
+  pub survey_in : (survey : Option Survey) → OnYesWith v survey (IsSurvey tally.scope.identity w.datagrams z.fti) → IsSurveyedFrom who (Some x) w.left o z v survey
+  survey_in survey surveyed =
+      survey_of who z o name form gives (Some x) w.left w.datagrams w.each w.consumed clean v survey valid w.end (judged_given who w.datagrams o z v name form gives given) told
+      (subst (λ (i : Identity). OnYesWith v survey (IsSurvey i w.datagrams z.fti)) w.identity surveyed)

@@ -1,5 +1,5 @@
 -- Where the datagrams of a session file stand.
-use Rattle.std.specs.Prelude.{◌≡◌, ◌<◌, ◌≤◌, ◌+◌, ℕ, Bool, false, List, Option, Some, Err, length}
+use Rattle.std.specs.Prelude.{◌≡◌, ◌<◌, ◌≤◌, ◌+◌, ℕ, Bool, false, List, Option, Some, length}
 use Rattle.std.specs.Prelude.{slice_index_or, []}
 use Rattle.std.specs.Io.KnownBytes.{Consumes, IsAtEnd}
 use Rattle.session.specs.Frames.{frame, frames, AreDatagrams, IsDatagram, IsReadFault}
@@ -8,14 +8,13 @@ use Rattle.session.specs.declared.extent.Extent.{Extent}
 use Rattle.session.specs.declared.frame.FrameFault.TheVariants.{Io}
 use Rattle.partition.specs.Fti.{Fti}
 use Rattle.reception.specs.declared.scope.Identity.{Identity}
-use Rattle.reception.specs.declared.scope.Scope.{Scope}
-use Rattle.reception.specs.Step.{IsLook}
-use Rattle.cert.specs.Tallying.{AreTallied, nothing, tallied_of}
+use Rattle.cert.specs.Tallying.{AreTallied, IsRefusedAt, nothing, tallied_of}
+use Rattle.cert.specs.declared.tally.Tally.{Tally}
 use Rattle.file_check.specs.Standing.{end_from, extents_from, no_extent}
 use Rattle.file_check.specs.declared.extents.Extents.{Extents}
 use Rattle.file_check.specs.declared.index.Index.{Index}
 use Rattle.file_check.specs.declared.index.End.{End}
-use Rattle.file_check.specs.declared.index.End.TheVariants.{File, Fault, Frame}
+use Rattle.file_check.specs.declared.index.End.TheVariants.{File, Reason, Frame}
 
 abbrev pub extents_of : Extents → List Extent
 extents_of extents = extents_from 0 extents.ends.items
@@ -31,11 +30,11 @@ StandAt content extents datagrams = (x : List ℕ) → content ≡ Some x → (i
     (datagram_in x e ≡ slice_index_or datagrams i []) × (e.offset + e.length ≤ length x)
 
 -- why no datagram follows these
-abbrev pub EndsBy : Scope → Option (List ℕ) → Bool → End → Type 0
-EndsBy scope left sound File = IsAtEnd left
-EndsBy scope left sound (Fault fault) = (d : List ℕ) × (new : Option (List ℕ)) × IsDatagram d
-    × Consumes left new (frame d) × IsLook d scope scope (Err fault)
-EndsBy scope left sound (Frame fault) = ((new : Option (List ℕ)) × (failed : Bool)
+abbrev pub EndsBy : Tally → Option (List ℕ) → Bool → End → Type 0
+EndsBy tally left sound File = IsAtEnd left
+EndsBy tally left sound (Reason r) = (d : List ℕ) × (new : Option (List ℕ)) × IsDatagram d
+    × Consumes left new (frame d) × IsRefusedAt d tally.scope tally.count r
+EndsBy tally left sound (Frame fault) = ((new : Option (List ℕ)) × (failed : Bool)
     × IsReadFault fault left new failed) × (fault ≡ Io → sound ≡ false)
 
 -- The frames of some datagrams stand in front, none with a fault before its symbol is looked at;
@@ -50,7 +49,7 @@ pub record IsIndexed (who : Identity) (f : Fti) (content : Option (List ℕ)) (s
   pub tallied : AreTallied nothing f (tallied_of index.tally) datagrams
   pub many : length (extents_of index.extents) ≡ length datagrams
   pub stand : StandAt content (extents_of index.extents) datagrams
-  pub ends : EndsBy index.tally.scope left sound end
+  pub ends : EndsBy index.tally left sound end
 
 -- the index is of these datagrams, which stand in the file's bytes
 pub record IsIndexOf (x : List ℕ) (f : Fti) (index : Index)

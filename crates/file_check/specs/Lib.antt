@@ -2,6 +2,6 @@ pub mod Standing
 pub mod Indexed
 pub mod Blocks
 pub mod Files
-pub mod Checked
 pub mod Compared
+pub mod Checked
 pub mod Shortness

@@ -1,6 +1,6 @@
 //! The check of files: their datagrams' headers first, and then block by block the object and the
 //! symbols.
-ghost use Rattle.std.specs.Prelude.{◌≡◌, ◌<◌, ◌*◌, ℕ, List, Option, Some, true, false, length};
+ghost use Rattle.std.specs.Prelude.{◌≡◌, ◌<◌, ◌*◌, ℕ, List, None, Some, true, length};
 ghost use Rattle.std.specs.Prelude.{OnOk, IfOk, IfErr, IfSome, IsNone};
 ghost use Rattle.losses.specs.Groups.{groups_of};
 ghost use Rattle.partition.specs.Fti.{block_count, source_count, encoding_count};
@@ -8,12 +8,12 @@ ghost use Rattle.reception.specs.Symbols.{IsObject};
 ghost use Rattle.certificate.specs.Certificate.{is_for, named_in};
 ghost use Rattle.certificate.specs.InFile.{IsUnnamed};
 ghost use Rattle.cert.specs.Tallying.{tallied_of};
-ghost use Rattle.cert.specs.Verdict.{GivesObject};
-ghost use Rattle.file_check.specs.Checked.{IsBlockStop, IsBlocksStop, IsCertificateStop};
-ghost use Rattle.file_check.specs.Checked.{IsEarlyStop, IsFrameStop, IsStop};
-ghost use Rattle.file_check.specs.Files.{IsCertificateFault, IsFilesFault, IsFaultOfFrames};
-ghost use Rattle.file_check.specs.Files.{IsNoCertificate};
-ghost use Rattle.file_check.specs.Checked.{IsSomeTally, IsWholeTally};
+ghost use Rattle.cert.specs.FromReader.{IsCheckedFrom};
+ghost use Rattle.cert.specs.NotGiven.{IsFirstInBlock};
+ghost use Rattle.cert.specs.Verdict.{GivesObject, short_of};
+ghost use Rattle.file_check.specs.Checked.{IsBlocksReason, IsSomeTally, IsWholeTally};
+ghost use Rattle.file_check.specs.Files.{IsCertificateFault, IsFileFault, IsFilesFault};
+ghost use Rattle.file_check.specs.Files.{IsFaultOfFrames, IsNoCertificate, IsNoVerdict};
 ghost use Rattle.file_check.specs.Compared.{AreCompared, IsCompared};
 ghost use Rattle.file_check.specs.Files.{IsSurveyIn, IsSurveyOnSome, IsVerdictIn};
 ghost use Rattle.file_check.specs.Files.{IsVerdictOnSome, WhereTold};
@@ -23,7 +23,7 @@ ghost use Rattle.file_check.specs.Shortness.{IsShortFound, IsTwinnedIn};
 use crate::blocks::{Wrong, first_not_given, make_symbols, read_source};
 use crate::index::{End, Index, index_session};
 use crate::members::{Made, ROOM, first_wrong};
-use cert::{CheckFault, NoReport, Reason, Survey, Tally, Verdict, reason_of};
+use cert::{CheckFault, Reason, Survey, Tally, Verdict};
 use certificate::{CertFault, NamedCertificate};
 use partition::Fti;
 use reception::Identity;
@@ -97,17 +97,17 @@ impl Buffers {
     }
 }
 
-// Compares a block of the certificate with the object, and with the datagrams: the first wrong
-// symbol of this block and of those before it, of which it is known. The first reason of a block is
-// that its polynomials don't give the object.
+// Compares a block of the certificate with the object, and with the datagrams. The column and the
+// symbol are told in which its polynomials don't give the object. Else the first wrong symbol is
+// that of this block and of those before it, of which it is known.
 fn compare_block<S: ReadAt, O: ReadAt, C: ReadAt>(
     files: &NamedFiles<'_, S, O, C>,
     index: &Index,
     session: &mut Lanes<'_, S>,
     buffers: &mut Buffers,
     block: u32,
-    before: Option<Wrong>,
-) -> Result<Option<Wrong>, NoReport>
+    wrong: &mut Option<Wrong>,
+) -> Result<Option<(usize, usize)>, CheckFault>
     requires block { block < block_count files.now.certificate.fti }
     requires groups { length (groups_of index.now.tally.groups)
         ≡ block_count files.now.certificate.fti }
@@ -117,63 +117,62 @@ fn compare_block<S: ReadAt, O: ReadAt, C: ReadAt>(
         (O.content files.now.object.now) (C.content files.now.certificate.file.now)
         (λ x o text. (ds : List (List ℕ))
         → IsIndexOf x files.now.certificate.fti index.now ds
-        → length o ≡ files.now.certificate.fti.transfer_length → IfOk result (IsCompared
-        (named_in text files.now.certificate.fti files.now.certificate.name)
-        o (tallied_of index.now.tally) ds block before)) }
-    ensures stop { WhereTold (S.content files.now.session.now)
+        → length o ≡ files.now.certificate.fti.transfer_length → IfOk result (λ r. IsNone r
+        → IsCompared (named_in text files.now.certificate.fti files.now.certificate.name)
+        o (tallied_of index.now.tally) ds block wrong.old wrong.new)) }
+    ensures not_given { WhereTold (S.content files.now.session.now)
+        (O.content files.now.object.now) (C.content files.now.certificate.file.now)
+        (λ x o text. length o ≡ files.now.certificate.fti.transfer_length
+        → IfOk result (λ r. IfSome r (λ at. IsFirstInBlock o
+        (named_in text files.now.certificate.fti files.now.certificate.name) block at.0 at.1))) }
+    ensures fault { WhereTold (S.content files.now.session.now)
         (O.content files.now.object.now) (C.content files.now.certificate.file.now)
         (λ x o text. (ds : List (List ℕ))
         → IsIndexOf x files.now.certificate.fti index.now ds
-        → length o ≡ files.now.certificate.fti.transfer_length → IfErr result (IsBlockStop
+        → length o ≡ files.now.certificate.fti.transfer_length → IfErr result (IsFileFault
         (record {
           session = S.reliable files.now.session.now;
           object = O.reliable files.now.object.now;
           certificate = C.reliable files.now.certificate.file.now;
-        }) o (named_in text files.now.certificate.fti files.now.certificate.name) block)) }
-    ensures lost { IfErr result (IsCertificateStop
+        }))) }
+    ensures lost { IfErr result (IsCertificateFault
         (C.content files.now.certificate.file.now) (C.reliable files.now.certificate.file.now)) }
-    ensures frame { IfErr result (IsFrameStop (S.reliable files.now.session.now)) }
-    ensures early { IfErr result IsEarlyStop }
+    ensures frame { IfErr result (IsFaultOfFrames (S.reliable files.now.session.now)) }
     ensures file { session.new.file.now ≡ session.old.file.now }
 {
     let fti = files.certificate.fti;
     buffers.resize(&fti, block)?;
     let Ok(()) = files.certificate.read_rows(block, &mut buffers.rows) else {
-        return Err(NoReport::Fault(CheckFault::Certificate(CertFault::Io)));
+        return Err(CheckFault::Certificate(CertFault::Io));
     };
     make_symbols(&fti, block, &buffers.rows, &mut buffers.symbols);
     let Ok(()) = read_source(files.object, &fti, block, &mut buffers.source) else {
-        return Err(NoReport::Fault(CheckFault::Object));
+        return Err(CheckFault::Object);
     };
-    if let Some((column, symbol)) = first_not_given(
-        &fti,
-        block,
-        &buffers.symbols,
-        &buffers.source,
-    ) {
-        return Err(NoReport::Reason(Reason::NotObject {
-            block,
-            column,
-            symbol,
-        }));
+    let not_given = first_not_given(&fti, block, &buffers.symbols, &buffers.source);
+    if not_given.is_some() {
+        return Ok(not_given);
     }
     let made = Made {
         block,
         symbols: &buffers.symbols,
     };
-    match first_wrong(session, index, made, &mut buffers.datagram, before) {
-        Ok(wrong) => Ok(wrong),
-        Err(_) => Err(NoReport::Fault(CheckFault::Session)),
+    match first_wrong(session, index, made, &mut buffers.datagram, *wrong) {
+        Ok(first) => {
+            *wrong = first;
+            Ok(None)
+        }
+        Err(_) => Err(CheckFault::Session),
     }
 }
 
-// Compares all blocks of the certificate with the object, and with the datagrams: the first wrong
-// symbol, or the first source point that the polynomials don't give.
+// Compares all blocks of the certificate with the object, and with the datagrams: the reason of the
+// first source point that the polynomials don't give, else that of the first wrong symbol.
 fn compare_blocks<S: ReadAt, O: ReadAt, C: ReadAt>(
     alloc: Global,
     files: &NamedFiles<'_, S, O, C>,
     index: &Index,
-) -> Result<Option<Wrong>, NoReport>
+) -> Result<Option<Reason>, CheckFault>
     requires groups { length (groups_of index.now.tally.groups)
         ≡ block_count files.now.certificate.fti }
     requires known { index.now.tally.scope.fti ≡ Some files.now.certificate.fti }
@@ -181,85 +180,106 @@ fn compare_blocks<S: ReadAt, O: ReadAt, C: ReadAt>(
         (O.content files.now.object.now) (C.content files.now.certificate.file.now)
         (λ x o text. (ds : List (List ℕ))
         → IsIndexOf x files.now.certificate.fti index.now ds
-        → length o ≡ files.now.certificate.fti.transfer_length → IfOk result (AreCompared
-        (named_in text files.now.certificate.fti files.now.certificate.name)
-        o (tallied_of index.now.tally) ds (block_count files.now.certificate.fti))) }
-    ensures stop { WhereTold (S.content files.now.session.now)
+        → length o ≡ files.now.certificate.fti.transfer_length → IfOk result (λ r. IsNone r
+        → AreCompared (named_in text files.now.certificate.fti files.now.certificate.name)
+        o (tallied_of index.now.tally) ds (block_count files.now.certificate.fti) None)) }
+    ensures against { WhereTold (S.content files.now.session.now)
         (O.content files.now.object.now) (C.content files.now.certificate.file.now)
         (λ x o text. (ds : List (List ℕ))
         → IsIndexOf x files.now.certificate.fti index.now ds
-        → length o ≡ files.now.certificate.fti.transfer_length → IfErr result (IsBlocksStop
+        → length o ≡ files.now.certificate.fti.transfer_length
+        → IfOk result (λ r. IfSome r (IsBlocksReason
+        (named_in text files.now.certificate.fti files.now.certificate.name)
+        o (tallied_of index.now.tally) ds))) }
+    ensures early { IfOk result (λ r. IfSome r (λ reason. short_of reason ≡ None)) }
+    ensures fault { WhereTold (S.content files.now.session.now)
+        (O.content files.now.object.now) (C.content files.now.certificate.file.now)
+        (λ x o text. (ds : List (List ℕ))
+        → IsIndexOf x files.now.certificate.fti index.now ds
+        → length o ≡ files.now.certificate.fti.transfer_length → IfErr result (IsFileFault
         (record {
           session = S.reliable files.now.session.now;
           object = O.reliable files.now.object.now;
           certificate = C.reliable files.now.certificate.file.now;
-        }) o (named_in text files.now.certificate.fti files.now.certificate.name))) }
-    ensures lost { IfErr result (IsCertificateStop
+        }))) }
+    ensures lost { IfErr result (IsCertificateFault
         (C.content files.now.certificate.file.now) (C.reliable files.now.certificate.file.now)) }
-    ensures frame { IfErr result (IsFrameStop (S.reliable files.now.session.now)) }
-    ensures early { IfErr result IsEarlyStop }
+    ensures frame { IfErr result (IsFaultOfFrames (S.reliable files.now.session.now)) }
 {
     let fti = files.certificate.fti;
     let mut buffers = Buffers::new(alloc);
-    let Ok(mut session) = Lanes::new(alloc, files.session, fti.n(0)) else {
-        return Err(NoReport::Fault(CheckFault::NoMemory));
-    };
+    let mut session = Lanes::new(alloc, files.session, fti.n(0))?;
     let mut wrong = None;
     for block in 0..fti.block_count() {
-        wrong = compare_block(files, index, &mut session, &mut buffers, block, wrong)?;
+        let not_given = compare_block(files, index, &mut session, &mut buffers, block, &mut wrong)?;
+        if let Some((column, symbol)) = not_given {
+            return Ok(Some(Reason::NotObject {
+                block,
+                column,
+                symbol,
+            }));
+        }
     }
-    Ok(wrong)
+    match wrong {
+        Some(wrong) => Ok(Some(Reason::Symbol(wrong.place, wrong.column))),
+        None => Ok(None),
+    }
 }
 
 // The tally of all datagrams, where each of them is as the certificate has it and the certificate
-// gives the object.
+// gives the object, or the first reason for which they aren't.
 fn tally_files<S: ReadAt, O: ReadAt, C: ReadAt>(
     alloc: Global,
     files: &NamedFiles<'_, S, O, C>,
     identity: Identity,
-) -> Result<Tally, NoReport>
+) -> Result<Result<Tally, Reason>, CheckFault>
     ensures tally { WhereTold (S.content files.now.session.now)
         (O.content files.now.object.now) (C.content files.now.certificate.file.now)
-        (λ x o text. IfOk result (IsWholeTally identity x
-        (named_in text files.now.certificate.fti files.now.certificate.name))) }
+        (λ x o text. IfOk result (λ r. IfOk r (IsWholeTally identity x
+        (named_in text files.now.certificate.fti files.now.certificate.name)))) }
     ensures given { WhereTold (S.content files.now.session.now)
         (O.content files.now.object.now) (C.content files.now.certificate.file.now)
-        (λ x o text. OnOk result
-        (is_for identity (Some files.now.certificate.name) ≡ true)
-        × OnOk result (IsObject files.now.certificate.fti o)
-        × OnOk result (GivesObject o
-        (named_in text files.now.certificate.fti files.now.certificate.name))) }
-    ensures stop { WhereTold (S.content files.now.session.now)
+        (λ x o text. IfOk result (λ r. OnOk r
+        ((is_for identity (Some files.now.certificate.name) ≡ true)
+        × IsObject files.now.certificate.fti o × GivesObject o
+        (named_in text files.now.certificate.fti files.now.certificate.name)))) }
+    ensures no { WhereTold (S.content files.now.session.now)
         (O.content files.now.object.now) (C.content files.now.certificate.file.now)
-        (λ x o text. IfErr result (IsStop identity
+        (λ x o text. IfOk result (λ r. IfErr r (λ reason. (left : _)
+        × IsCheckedFrom identity (Some x) left o
+        (named_in text files.now.certificate.fti files.now.certificate.name)
+        (Verdict.No reason)))) }
+    ensures early { IfOk result (λ r. IfErr r (λ reason. short_of reason ≡ None)) }
+    ensures some { IfOk result (λ r. IfOk r (IsSomeTally identity files.now.certificate.fti)) }
+    ensures fault { WhereTold (S.content files.now.session.now)
+        (O.content files.now.object.now) (C.content files.now.certificate.file.now)
+        (λ x o text. IfErr result (IsNoVerdict identity
         (record {
           session = S.reliable files.now.session.now;
           object = O.reliable files.now.object.now;
           certificate = C.reliable files.now.certificate.file.now;
         }) x o (named_in text files.now.certificate.fti files.now.certificate.name))) }
-    ensures lost { IfErr result (IsCertificateStop
+    ensures lost { IfErr result (IsCertificateFault
         (C.content files.now.certificate.file.now) (C.reliable files.now.certificate.file.now)) }
-    ensures frame { IfErr result (IsFrameStop (S.reliable files.now.session.now)) }
-    ensures early { IfErr result IsEarlyStop }
-    ensures some { IfOk result (IsSomeTally identity files.now.certificate.fti) }
+    ensures frame { IfErr result (IsFaultOfFrames (S.reliable files.now.session.now)) }
 {
     let fti = files.certificate.fti;
     if files.certificate.name != identity {
-        return Err(NoReport::Reason(Reason::OtherCertificate));
+        return Ok(Err(Reason::OtherCertificate));
     }
     match has_length(files.object, fti.transfer_length()) {
         Ok(true) => {}
-        Ok(false) => return Err(NoReport::Reason(Reason::ObjectLength)),
-        Err(_) => return Err(NoReport::Fault(CheckFault::Object)),
+        Ok(false) => return Ok(Err(Reason::ObjectLength)),
+        Err(_) => return Err(CheckFault::Object),
     }
     let (index, end) = index_session(alloc, files.session, identity, fti)?;
-    if let Some(wrong) = compare_blocks(alloc, files, &index)? {
-        return Err(NoReport::Reason(Reason::Symbol(wrong.place, wrong.column)));
+    if let Some(reason) = compare_blocks(alloc, files, &index)? {
+        return Ok(Err(reason));
     }
     match end {
-        End::File => Ok(index.tally),
-        End::Fault(fault) => Err(NoReport::Reason(reason_of(index.tally.count, fault))),
-        End::Frame(fault) => Err(NoReport::Fault(CheckFault::Frame(fault))),
+        End::File => Ok(Ok(index.tally)),
+        End::Reason(reason) => Ok(Err(reason)),
+        End::Frame(fault) => Err(CheckFault::Frame(fault)),
     }
 }
 
@@ -355,15 +375,9 @@ pub fn survey_files<S: ReadAt, O: ReadAt, C: ReadAt>(
         Ok(None) => return Ok(None),
         Err(fault) => return Err(CheckFault::Certificate(fault)),
     };
-    let tally = match tally_files(alloc, &named, identity) {
-        Ok(tally) => tally,
-        Err(NoReport::Reason(reason)) => return Ok(Some((Verdict::No(reason), None))),
-        Err(NoReport::Fault(fault)) => return Err(fault),
-    };
-    match tally.survey(alloc) {
-        Ok((report, survey)) => Ok(Some((Verdict::Yes(report), Some(survey)))),
-        Err(NoReport::Reason(reason)) => Ok(Some((Verdict::No(reason), None))),
-        Err(NoReport::Fault(fault)) => Err(fault),
+    match tally_files(alloc, &named, identity)? {
+        Ok(tally) => Ok(Some(tally.survey(alloc)?)),
+        Err(reason) => Ok(Some((Verdict::No(reason), None))),
     }
 }
 
@@ -401,22 +415,18 @@ pub fn check_for_twin<S: ReadAt, O: ReadAt, C: ReadAt>(
         Ok(None) => return Ok(None),
         Err(fault) => return Err(CheckFault::Certificate(fault)),
     };
-    let tally = match tally_files(alloc, &named, identity) {
+    let tally = match tally_files(alloc, &named, identity)? {
         Ok(tally) => tally,
-        Err(NoReport::Reason(reason)) => return Ok(Some((Verdict::No(reason), None))),
-        Err(NoReport::Fault(fault)) => return Err(fault),
+        Err(reason) => return Ok(Some((Verdict::No(reason), None))),
     };
-    let reason = match tally.report(alloc) {
-        Ok(report) => return Ok(Some((Verdict::Yes(report), None))),
-        Err(NoReport::Reason(reason)) => reason,
-        Err(NoReport::Fault(fault)) => return Err(fault),
+    let reason = match tally.verdict(alloc)? {
+        Verdict::Yes(report) => return Ok(Some((Verdict::Yes(report), None))),
+        Verdict::No(reason) => reason,
     };
     let Some((block, have, need)) = reason.short_block() else {
         return Ok(Some((Verdict::No(reason), None)));
     };
-    let Ok(arrived_esis) = tally.esis(alloc, block) else {
-        return Err(CheckFault::NoMemory);
-    };
+    let arrived_esis = tally.esis(alloc, block)?;
     let short = ShortBlock {
         block,
         have,

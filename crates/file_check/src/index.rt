@@ -1,16 +1,15 @@
 //! Where the datagrams of a session file stand, and what came in them but for their symbols' bytes.
-ghost use Rattle.std.specs.Prelude.{◌≡◌, ◌<◌, ◌+◌, ◌^◌, ◌++◌, ◌∷◌, [], None, Some, Err, ℕ, List};
+ghost use Rattle.std.specs.Prelude.{◌≡◌, ◌<◌, ◌+◌, ◌^◌, ◌++◌, ◌∷◌, [], None, Some, ℕ, List};
 ghost use Rattle.std.specs.Prelude.{IfOk, IfSome};
 ghost use Rattle.partition.specs.Fti.{Fti as FtiValue};
-ghost use Rattle.reception.specs.Step.{IsLook};
-ghost use Rattle.cert.specs.Tallying.{AreTallied, nothing, tallied_of};
+ghost use Rattle.cert.specs.Tallying.{AreTallied, IsRefusedAt, nothing, tallied_of};
 ghost use Rattle.file_check.specs.Indexed.{IsIndexed, end_of, extents_of};
 
 use crate::extents::Extents;
-use cert::Tally;
+use cert::{Reason, Tally};
 use lists::are_bytes;
 use partition::Fti;
-use reception::{Identity, Look, PlaceFault};
+use reception::Identity;
 use session::{Extent, FrameFault, Position, Read, read_next_into};
 use std::alloc::{AllocError, Global};
 use streams::{Cursor, ReadAt};
@@ -28,15 +27,15 @@ pub(crate) struct Index {
 pub(crate) enum End {
     /// The file ends.
     File,
-    /// The next one has this fault.
-    Fault(PlaceFault),
+    /// This is the reason against the next one.
+    Reason(Reason),
     /// No frame follows, or it can't be read.
     Frame(FrameFault),
 }
 
 impl Index {
-    // Takes the next datagram, which stands here, or tells its fault.
-    fn take(&mut self, datagram: &[u8], extent: Extent) -> Result<Option<PlaceFault>, AllocError>
+    // Takes the next datagram, which stands here, or tells the reason against it.
+    fn take(&mut self, datagram: &[u8], extent: Extent) -> Result<Option<Reason>, AllocError>
         requires tallied { (f : FtiValue) × (ds : List (List ℕ))
             × AreTallied nothing f (tallied_of self.old.tally) ds }
         requires begin { extent.offset ≡ end_of self.old.extents + 2 }
@@ -50,23 +49,22 @@ impl Index {
             → extents_of self.new.extents ≡ extents_of self.old.extents ++ extent ∷ []) }
         ensures end { IfOk result (λ o. o ≡ None
             → end_of self.new.extents ≡ extent.offset + extent.length) }
-        ensures fault { IfOk result (λ o. IfSome o (λ e.
-            IsLook datagram.now self.old.tally.scope self.old.tally.scope (Err e))) }
+        ensures against { IfOk result (λ o. IfSome o
+            (IsRefusedAt datagram.now self.old.tally.scope self.old.tally.count)) }
         ensures stays { IfOk result (λ o. IfSome o (λ _. self.new ≡ self.old)) }
     {
         match self.tally.look(datagram) {
-            Ok(Look::InRange(packet)) => {
+            Ok(Some(packet)) => {
                 self.tally.put(&packet)?;
                 self.extents.push(extent)?;
                 Ok(None)
             }
-            Ok(Look::Other) => {
+            Ok(None) => {
                 self.tally.pass_over()?;
                 self.extents.push(extent)?;
                 Ok(None)
             }
-            Ok(Look::Early) => unreachable!(),
-            Err(fault) => Ok(Some(fault)),
+            Err(reason) => Ok(Some(reason)),
         }
     }
 }
@@ -104,7 +102,7 @@ fn index_frames<R: Read>(
                 position = next;
                 room = datagram;
             }
-            Some(fault) => return Ok((index, End::Fault(fault))),
+            Some(reason) => return Ok((index, End::Reason(reason))),
         }
     }
 }

@@ -70,6 +70,9 @@ fn wrong_column<S: ReadAt>(
         Ok(Look::InRange(packet)) => packet,
         Ok(Look::Other) => return Err(Failed),
         Ok(Look::Early) => return Err(Failed),
+        Ok(Look::OtherFti) => return Err(Failed),
+        Ok(Look::SymbolLength) => return Err(Failed),
+        Ok(Look::Range) => return Err(Failed),
         Err(_) => return Err(Failed),
     };
     if packet.sbn != made.block {

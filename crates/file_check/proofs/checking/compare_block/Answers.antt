@@ -1,4 +1,4 @@
-use Rattle.std.proofs.Common.{◌≡◌, ◌∙◌, ℕ, List, ◌++◌, length, take, drop, refl, sym, ap, arith}
+use Rattle.std.proofs.Common.{◌≡◌, ◌∙◌, ℕ, List, ◌++◌, length, take, drop, refl, sym, ap, arith, rules, IsNone}
 use Rattle.std.proofs.Math.Seq.{take-append_seam}
 use Rattle.std.proofs.Math.Nat.{mul-le-mul_right}
 use Rattle.partition.proofs.Laws.{source_encoding}
@@ -10,8 +10,8 @@ use Rattle.file_check.proofs.checking.compare_block.Goals as goal
 kept : (n : ℕ) (a xs : List ℕ) → length a ≡ n → take n (a ++ drop (length a) xs) ≡ a
 kept n a xs e = ap (λ (m : ℕ). take m (a ++ drop (length a) xs)) (sym e) ∙ take-append_seam a (drop (length a) xs)
 
-pub first_not_given-requires-clause-symbols : goal.first_not_given-requires-clause-symbols
-first_not_given-requires-clause-symbols g c =
+pub first_not_given-not_given-requires-clause-symbols : goal.first_not_given-not_given-requires-clause-symbols
+first_not_given-not_given-requires-clause-symbols g c =
     let f = c.args.files.now.certificate.fti in
     let less = mul-le-mul_right f.symbol_length (source_encoding f c.args.files.now.certificate.valid c.args.block) in
     let size = c.make_symbols.ensures.len in
@@ -19,8 +19,8 @@ first_not_given-requires-clause-symbols g c =
     c.deref-2.ensures.value ∙ kept c.resize.new.self.symbols.len c.make_symbols.new.symbols c.resize.new.self.symbols.items (c.make_symbols.ensures.len ∙ c.deref_mut-2.ensures.len) in
     rw is_symbols (omega (arith, less, size, c.deref_mut-2.ensures.len, c.in_ok-resize.ensures.symbols, c.resize.new.self.symbols.ok.0))
 
-pub returns-in-Some-clause-stop : goal.returns-in-Some-clause-stop
-returns-in-Some-clause-stop g c = λ x o text told_x told_o told_t ds index long. (
+pub returns-then-is_some-clause-not_given : goal.returns-then-is_some-clause-not_given
+returns-then-is_some-clause-not_given g c = λ x o text told_x told_o told_t long. (
     let f = c.args.files.now.certificate.fti in
     let z = named_in text f c.args.files.now.certificate.name in
     let valid : IsCertificate z = (rw told_t at c.args.files.now.certificate.named).0 in
@@ -33,11 +33,10 @@ returns-in-Some-clause-stop g c = λ x o text told_x told_o told_t ds index long
     c.deref-3.ensures.value ∙ kept c.resize.new.self.source.len c.read_source.new.bytes c.resize.new.self.source.items (c.read_source.ensures.len ∙ c.deref_mut-3.ensures.len) in
     let symbols = c.make_symbols.ensures.symbols z valid refl (rw is_rows rows) in
     let source = c.in-Ok-read_source.ensures.source o told_o in
-    let first = c.first_not_given.ensures.some o z refl (rw is_source source) (rw is_symbols symbols) in
-    (refl, rw c.in-Some.is at first))
+    c.first_not_given-not_given.ensures.some o z refl (rw is_source source) (rw is_symbols symbols))
 
 pub returns-in-Ok-first_wrong-clause-compared : goal.returns-in-Ok-first_wrong-clause-compared
-returns-in-Ok-first_wrong-clause-compared g c = λ x o text told_x told_o told_t ds index long. (
+returns-in-Ok-first_wrong-clause-compared g c = λ x o text told_x told_o told_t ds index long none. (
     let f = c.args.files.now.certificate.fti in
     let z = named_in text f c.args.files.now.certificate.name in
     let valid : IsCertificate z = (rw told_t at c.args.files.now.certificate.named).0 in
@@ -54,13 +53,14 @@ returns-in-Ok-first_wrong-clause-compared g c = λ x o text told_x told_o told_t
     c.deref-4.ensures.value ∙ kept c.resize.new.self.symbols.len c.make_symbols.new.symbols c.resize.new.self.symbols.items (c.make_symbols.ensures.len ∙ c.deref_mut-2.ensures.len) in
     let there = ap (λ s. g.S.ReadAt.content s) c.requires.same ∙ told_x in
     let e = c.in-Ok-first_wrong.ensures in
+    let not_given : IsNone c.first_not_given-not_given.result = search rules in
     record {
-      gives = c.first_not_given.ensures.none o z refl (rw is_source source) (rw is_symbols symbols) (rw c.in_default-first_not_given.is refl);
+      gives = c.first_not_given-not_given.ensures.none o z refl (rw is_source source) (rw is_symbols symbols) not_given;
       said = e.said x z ds there valid index (rw is_again symbols);
       is = e.wrong x z ds there valid index (rw is_again symbols);
       earlier = λ before. e.earlier x z.fti ds index;
     })
 
-pub returns-in-Err-clause-stop : goal.returns-in-Err-clause-stop
-returns-in-Err-clause-stop g c = λ x o text told_x told_o told_t ds index long.
+pub returns-in-Err-clause-fault : goal.returns-in-Err-clause-fault
+returns-in-Err-clause-fault g c = λ x o text told_x told_o told_t ds index long.
     rw c.requires.same at (c.in-Err.ensures.lost x c.args.files.now.certificate.fti ds (ap (λ s. g.S.ReadAt.content s) c.requires.same ∙ told_x) index)

@@ -1,19 +1,19 @@
-use Rattle.std.proofs.Common.{◌≡◌, ◌∙◌, None, length, sym}
+use Rattle.std.proofs.Common.{◌≡◌, ◌∙◌, None, length, refl, sym}
 use Rattle.reception.specs.Symbols.{IsObject}
 use Rattle.certificate.specs.Certificate.{named_in}
 use Rattle.cert.specs.Tallying.{nothing, tallied_of}
 use Rattle.cert.specs.declared.verdict.Reason.TheVariants.{OtherCertificate, ObjectLength}
 use Rattle.cert.proofs.DatagramSteps.{fti_holds}
 use Rattle.certificate.proofs.Results.{passed_on}
-use Rattle.file_check.proofs.WholeTallies.{before, equal, faulty, gives_object, index_of, not_equal, refused, stops, untold_fault, whole_tally, wrong_symbol}
+use Rattle.file_check.proofs.WholeTallies.{against_blocks, before, early_reason, equal, file_fault, gives_object, index_of, not_equal, refused, refused_next, untold_fault, whole_tally}
 use Rattle.file_check.proofs.checking.tally_files.Goals as goal
 
-pub returns-then-ne-clause-stop : goal.returns-then-ne-clause-stop
-returns-then-ne-clause-stop g c = λ x o text sx so st.
+pub returns-then-ne-clause-no : goal.returns-then-ne-clause-no
+returns-then-ne-clause-no g c = λ x o text sx so st.
     before c.args.identity x o (named_in text c.args.files.now.certificate.fti c.args.files.now.certificate.name) OtherCertificate (not_equal _ (sym c.ne.ensures ∙ c.if-ne.true))
 
-pub returns-in-Ok-false-clause-stop : goal.returns-in-Ok-false-clause-stop
-returns-in-Ok-false-clause-stop g c = λ x o text sx so st. (
+pub returns-in-Ok-false-clause-no : goal.returns-in-Ok-false-clause-no
+returns-in-Ok-false-clause-no g c = λ x o text sx so st. (
     let told = rw so at c.in-Ok-false.ensures.told in
     before c.args.identity x o (named_in text c.args.files.now.certificate.fti c.args.files.now.certificate.name) ObjectLength
     (equal _ (sym c.ne.ensures ∙ c.if-ne.false), λ e. (let has = told.1 (e ∙ sym c.transfer_length.ensures.value) in absurd (cc))))
@@ -23,25 +23,26 @@ compare_blocks-requires-clause-known g c =
     let some = c.in_ok-index.ensures.some in
     fti_holds nothing c.args.files.now.certificate.fti (tallied_of c.in_ok-index.index.tally) some.1.datagrams some.1.tallied
 
-pub returns-in_err-wrong-clause-stop : goal.returns-in_err-wrong-clause-stop
-returns-in_err-wrong-clause-stop g c = λ x o text sx so st. (
+pub returns-in_err-reason-clause-fault : goal.returns-in_err-reason-clause-fault
+returns-in_err-reason-clause-fault g c = λ x o text sx so st. (
     let f = c.args.files.now.certificate.fti in
     let z = named_in text f c.args.files.now.certificate.name in
     let who = c.args.identity in
+    let sound = g.S.ReadAt.reliable c.args.files.now.session.now in
     let is = c.in_ok-index.ensures.told x sx in
     let told = rw so at c.in-Ok-true.ensures.told in
     let long : length o ≡ f.transfer_length = told.0 c.in-Ok-true.field-0-test ∙ c.transfer_length.ensures.value in
-    let index = index_of who x o z (g.S.ReadAt.reliable c.args.files.now.session.now) c.in_ok-index.index c.in_ok-index.end is in
-    passed_on c.from_residual-in_err-wrong.result c.in_err-wrong.field-0.0 _ c.from_residual-in_err-wrong.ensures.1
-    (stops who x o z (equal _ (sym c.ne.ensures ∙ c.if-ne.false)) long
+    let index = index_of who x o z sound c.in_ok-index.index c.in_ok-index.end is in
+    passed_on c.from_residual-in_err-reason.result c.in_err-reason.field-0.0 _ c.from_residual-in_err-reason.ensures.1
+    (file_fault who x o z
     (record {
       session = g.S.ReadAt.reliable c.args.files.now.session.now;
       object = g.O.ReadAt.reliable c.args.files.now.object.now;
       certificate = g.C.ReadAt.reliable c.args.files.now.certificate.file.now;
-    }) c.in_err-wrong.field-0.0 (c.in_err-wrong.ensures.stop x o text sx so st is.datagrams index long)))
+    }) c.in_err-reason.field-0.0 (c.in_err-reason.ensures.fault x o text sx so st is.datagrams index long)))
 
-pub returns-in-Some-clause-stop : goal.returns-in-Some-clause-stop
-returns-in-Some-clause-stop g c = λ x o text sx so st. (
+pub returns-in-Some-clause-no : goal.returns-in-Some-clause-no
+returns-in-Some-clause-no g c = λ x o text sx so st. (
     let f = c.args.files.now.certificate.fti in
     let z = named_in text f c.args.files.now.certificate.name in
     let who = c.args.identity in
@@ -51,8 +52,8 @@ returns-in-Some-clause-stop g c = λ x o text sx so st. (
     let long : length o ≡ f.transfer_length = told.0 c.in-Ok-true.field-0-test ∙ c.transfer_length.ensures.value in
     let form : IsObject f o = record { count = long; bytes = rw so at c.in-Ok-true.ensures.each } in
     let index = index_of who x o z sound c.in_ok-index.index c.in_ok-index.end is in
-    let are = rw c.in-Some.is at (c.in_ok-wrong.ensures.compared x o text sx so st is.datagrams index long) in
-    wrong_symbol who x o z sound c.in_ok-index.index c.in_ok-index.end is c.in-Some.wrong are (equal _ (sym c.ne.ensures ∙ c.if-ne.false)) form)
+    let against = rw c.in-Some.is at (c.in_ok-reason.ensures.against x o text sx so st is.datagrams index long) in
+    against_blocks who x o z sound c.in_ok-index.index c.in_ok-index.end is c.in-Some.reason against (equal _ (sym c.ne.ensures ∙ c.if-ne.false)) form)
 
 pub returns-in-File-clause-tally : goal.returns-in-File-clause-tally
 returns-in-File-clause-tally g c = λ x o text sx so st. (
@@ -64,7 +65,7 @@ returns-in-File-clause-tally g c = λ x o text sx so st. (
     let told = rw so at c.in-Ok-true.ensures.told in
     let long : length o ≡ f.transfer_length = told.0 c.in-Ok-true.field-0-test ∙ c.transfer_length.ensures.value in
     let index = index_of who x o z sound c.in_ok-index.index c.in_ok-index.end is in
-    let are = rw c.in_default.is at (c.in_ok-wrong.ensures.compared x o text sx so st is.datagrams index long) in
+    let are = c.in_ok-reason.ensures.compared x o text sx so st is.datagrams index long (rw c.in_default.is refl) in
     whole_tally who x o z sound c.in_ok-index.index c.in_ok-index.end is are c.args.files.now.certificate.valid (rw c.in-File.is at is.ends))
 
 pub returns-in-File-clause-given : goal.returns-in-File-clause-given
@@ -78,11 +79,11 @@ returns-in-File-clause-given g c = λ x o text sx so st. (
     let long : length o ≡ f.transfer_length = told.0 c.in-Ok-true.field-0-test ∙ c.transfer_length.ensures.value in
     let form : IsObject f o = record { count = long; bytes = rw so at c.in-Ok-true.ensures.each } in
     let index = index_of who x o z sound c.in_ok-index.index c.in_ok-index.end is in
-    let are = rw c.in_default.is at (c.in_ok-wrong.ensures.compared x o text sx so st is.datagrams index long) in
+    let are = c.in_ok-reason.ensures.compared x o text sx so st is.datagrams index long (rw c.in_default.is refl) in
     (equal _ (sym c.ne.ensures ∙ c.if-ne.false), form, gives_object who x o z sound c.in_ok-index.index c.in_ok-index.end is None are))
 
-pub returns-in-Fault-clause-stop : goal.returns-in-Fault-clause-stop
-returns-in-Fault-clause-stop g c = λ x o text sx so st. (
+pub returns-in-Reason-clause-no : goal.returns-in-Reason-clause-no
+returns-in-Reason-clause-no g c = λ x o text sx so st. (
     let f = c.args.files.now.certificate.fti in
     let z = named_in text f c.args.files.now.certificate.name in
     let who = c.args.identity in
@@ -92,11 +93,16 @@ returns-in-Fault-clause-stop g c = λ x o text sx so st. (
     let long : length o ≡ f.transfer_length = told.0 c.in-Ok-true.field-0-test ∙ c.transfer_length.ensures.value in
     let form : IsObject f o = record { count = long; bytes = rw so at c.in-Ok-true.ensures.each } in
     let index = index_of who x o z sound c.in_ok-index.index c.in_ok-index.end is in
-    let are = rw c.in_default.is at (c.in_ok-wrong.ensures.compared x o text sx so st is.datagrams index long) in
-    rw c.reason_of.ensures (faulty who x o z sound c.in_ok-index.index c.in_ok-index.end is are (equal _ (sym c.ne.ensures ∙ c.if-ne.false)) form c.in-Fault.fault (rw c.in-Fault.is at is.ends)))
+    let are = c.in_ok-reason.ensures.compared x o text sx so st is.datagrams index long (rw c.in_default.is refl) in
+    refused_next who x o z sound c.in_ok-index.index c.in_ok-index.end is are (equal _ (sym c.ne.ensures ∙ c.if-ne.false)) form c.in-Reason.reason (rw c.in-Reason.is at is.ends))
 
-pub returns-in-Frame-clause-stop : goal.returns-in-Frame-clause-stop
-returns-in-Frame-clause-stop g c = λ x o text sx so st. (
+pub returns-in-Reason-clause-early : goal.returns-in-Reason-clause-early
+returns-in-Reason-clause-early g c =
+    let ends = rw c.in-Reason.is at c.in_ok-index.ensures.some.1.ends in
+    early_reason ends.0 c.in_ok-index.index.tally.scope c.in_ok-index.index.tally.count c.in-Reason.reason ends.4
+
+pub returns-in-Frame-clause-fault : goal.returns-in-Frame-clause-fault
+returns-in-Frame-clause-fault g c = λ x o text sx so st. (
     let f = c.args.files.now.certificate.fti in
     let z = named_in text f c.args.files.now.certificate.name in
     let who = c.args.identity in
@@ -106,7 +112,7 @@ returns-in-Frame-clause-stop g c = λ x o text sx so st. (
     let long : length o ≡ f.transfer_length = told.0 c.in-Ok-true.field-0-test ∙ c.transfer_length.ensures.value in
     let form : IsObject f o = record { count = long; bytes = rw so at c.in-Ok-true.ensures.each } in
     let index = index_of who x o z sound c.in_ok-index.index c.in_ok-index.end is in
-    let are = rw c.in_default.is at (c.in_ok-wrong.ensures.compared x o text sx so st is.datagrams index long) in
+    let are = c.in_ok-reason.ensures.compared x o text sx so st is.datagrams index long (rw c.in_default.is refl) in
     refused who x o z sound c.in_ok-index.index c.in_ok-index.end is are (equal _ (sym c.ne.ensures ∙ c.if-ne.false)) form c.in-Frame.fault (rw c.in-Frame.is at is.ends))
 
 pub returns-in-Frame-clause-frame : goal.returns-in-Frame-clause-frame

@@ -70,7 +70,7 @@ returns-in-Some g c =
     let d = c.in-Ok-Some.datagram.items in
     let here : IsDatagram d = record { short = rw c.in-Ok-Some.field-0-is at c.in-Ok-Some.ensures.short; bytes = rw c.as_slice-bytes.ensures.value at c.are_bytes.ensures } in
     let same = rw c.in-Some.is at c.in_ok-take.ensures.stays in
-    let fault = rw (c.in-Some.is, c.as_slice-bytes.ensures.value) at c.in_ok-take.ensures.fault in
+    let against = rw (c.in-Some.is, c.as_slice-bytes.ensures.value) at c.in_ok-take.ensures.against in
     rw same (record {
       datagrams = read.0.read;
       each = read.0.each;
@@ -80,7 +80,7 @@ returns-in-Some g c =
       tallied = read.1;
       many = read.2;
       stand = read.3;
-      ends = (d, g.R.Read.remaining c.read_next_into.new.reader, here, rw c.in-Ok-Some.field-0-is at c.in-Ok-Some.ensures.some, fault);
+      ends = (d, g.R.Read.remaining c.read_next_into.new.reader, here, rw c.in-Ok-Some.field-0-is at c.in-Ok-Some.ensures.some, against);
     })
 
 pub loop-datagram-smaller : goal.loop-datagram-smaller

@@ -3,7 +3,7 @@ use Rattle.std.specs.Prelude.{◌-◌}
 use Rattle.alc.specs.Packet.{Packet}
 use Rattle.alc.specs.Views.{packet_of}
 use Rattle.partition.specs.Fti.{Fti, encoding_count}
-use Rattle.reception.specs.Reception.{InRange, Other, look}
+use Rattle.reception.specs.Reception.{InRange, NoPacket, Other, OtherFti, Range, SymbolLength, look}
 use Rattle.reception.specs.Step.{looked}
 use Rattle.alc.specs.Computed.{read_of}
 use Rattle.certified_symbols.specs.CertifiedSymbol.{IsCertifiedSymbol}
@@ -21,13 +21,46 @@ returns-in-Ok-Other-clause-lost g c = λ x told inside packet. (
     let there : look c.args.scope.now (read_of c.fill.new.buf) ≡ Ok (InRange packet.packet) = ap (λ (l : List ℕ). look c.args.scope.now (read_of l)) d ∙ packet.look in
     absurd (cc))
 
+pub returns-in-Ok-OtherFti-clause-lost : goal.returns-in-Ok-OtherFti-clause-lost
+returns-in-Ok-OtherFti-clause-lost g c = λ x told inside packet. (
+    let f = c.requires.known.0 in
+    let few : c.args.extent.length < 65536 = search rules in
+    let size : length c.fill.new.buf ≡ c.args.extent.length = c.fill.auto.buf ∙ length-take-le c.from.result c.args.datagram.now (omega (arith, few, c.from.ensures, c.requires.room)) ∙ c.from.ensures in
+    let d = whole x c.args.extent c.in_ok-fill.field-0 c.fill.new.buf size (omega (arith, c.if-branch-bytes.false)) (rw told at c.in_ok-fill.ensures.bytes) in
+    let is : look c.args.scope.now (read_of c.fill.new.buf) ≡ Err OtherFti =
+    seen c.args.scope.now c.fill.new.buf c.look.new.self c.look.result (is_known c.args.scope.now.fti f c.requires.known.1) c.look.ensures ∙ ap looked c.in-Ok-OtherFti.is ∙ ap (λ l. looked (Ok l)) c.in-Ok-OtherFti.field-0-is in
+    let there : look c.args.scope.now (read_of c.fill.new.buf) ≡ Ok (InRange packet.packet) = ap (λ (l : List ℕ). look c.args.scope.now (read_of l)) d ∙ packet.look in
+    absurd (cc))
+
+pub returns-in-Ok-SymbolLength-clause-lost : goal.returns-in-Ok-SymbolLength-clause-lost
+returns-in-Ok-SymbolLength-clause-lost g c = λ x told inside packet. (
+    let f = c.requires.known.0 in
+    let few : c.args.extent.length < 65536 = search rules in
+    let size : length c.fill.new.buf ≡ c.args.extent.length = c.fill.auto.buf ∙ length-take-le c.from.result c.args.datagram.now (omega (arith, few, c.from.ensures, c.requires.room)) ∙ c.from.ensures in
+    let d = whole x c.args.extent c.in_ok-fill.field-0 c.fill.new.buf size (omega (arith, c.if-branch-bytes.false)) (rw told at c.in_ok-fill.ensures.bytes) in
+    let is : look c.args.scope.now (read_of c.fill.new.buf) ≡ Err SymbolLength =
+    seen c.args.scope.now c.fill.new.buf c.look.new.self c.look.result (is_known c.args.scope.now.fti f c.requires.known.1) c.look.ensures ∙ ap looked c.in-Ok-SymbolLength.is ∙ ap (λ l. looked (Ok l)) c.in-Ok-SymbolLength.field-0-is in
+    let there : look c.args.scope.now (read_of c.fill.new.buf) ≡ Ok (InRange packet.packet) = ap (λ (l : List ℕ). look c.args.scope.now (read_of l)) d ∙ packet.look in
+    absurd (cc))
+
+pub returns-in-Ok-Range-clause-lost : goal.returns-in-Ok-Range-clause-lost
+returns-in-Ok-Range-clause-lost g c = λ x told inside packet. (
+    let f = c.requires.known.0 in
+    let few : c.args.extent.length < 65536 = search rules in
+    let size : length c.fill.new.buf ≡ c.args.extent.length = c.fill.auto.buf ∙ length-take-le c.from.result c.args.datagram.now (omega (arith, few, c.from.ensures, c.requires.room)) ∙ c.from.ensures in
+    let d = whole x c.args.extent c.in_ok-fill.field-0 c.fill.new.buf size (omega (arith, c.if-branch-bytes.false)) (rw told at c.in_ok-fill.ensures.bytes) in
+    let is : look c.args.scope.now (read_of c.fill.new.buf) ≡ Err Range =
+    seen c.args.scope.now c.fill.new.buf c.look.new.self c.look.result (is_known c.args.scope.now.fti f c.requires.known.1) c.look.ensures ∙ ap looked c.in-Ok-Range.is ∙ ap (λ l. looked (Ok l)) c.in-Ok-Range.field-0-is in
+    let there : look c.args.scope.now (read_of c.fill.new.buf) ≡ Ok (InRange packet.packet) = ap (λ (l : List ℕ). look c.args.scope.now (read_of l)) d ∙ packet.look in
+    absurd (cc))
+
 pub returns-in-Err-clause-lost : goal.returns-in-Err-clause-lost
 returns-in-Err-clause-lost g c = λ x told inside packet. (
     let f = c.requires.known.0 in
     let few : c.args.extent.length < 65536 = search rules in
     let size : length c.fill.new.buf ≡ c.args.extent.length = c.fill.auto.buf ∙ length-take-le c.from.result c.args.datagram.now (omega (arith, few, c.from.ensures, c.requires.room)) ∙ c.from.ensures in
     let d = whole x c.args.extent c.in_ok-fill.field-0 c.fill.new.buf size (omega (arith, c.if-branch-bytes.false)) (rw told at c.in_ok-fill.ensures.bytes) in
-    let is : look c.args.scope.now (read_of c.fill.new.buf) ≡ Err c.in-Err.field-0 =
+    let is : look c.args.scope.now (read_of c.fill.new.buf) ≡ Err (NoPacket c.in-Err.field-0) =
     seen c.args.scope.now c.fill.new.buf c.look.new.self c.look.result (is_known c.args.scope.now.fti f c.requires.known.1) c.look.ensures ∙ ap looked c.in-Err.is in
     let there : look c.args.scope.now (read_of c.fill.new.buf) ≡ Ok (InRange packet.packet) = ap (λ (l : List ℕ). look c.args.scope.now (read_of l)) d ∙ packet.look in
     absurd (cc))
