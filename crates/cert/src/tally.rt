@@ -147,6 +147,9 @@ impl Tally {
         ensures verdict { (z : CertificateValue) (datagrams : List (List ℕ))
             → IsTally (by_certificate z) z.fti self.now datagrams
             → IfOk result (λ r. VerdictWhereGiven self.now.scope.identity datagrams z r.0) }
+        ensures short { (b have need : ℕ) → IfOk result (λ r.
+            r.0 ≡ Verdict.No (Reason.Thin b have need)
+            → IsFirstShortGroup (groups_of self.now.groups) b have need) }
     {
         if let Some(reason) = self.lack() {
             return Ok((Verdict::No(reason), None));

@@ -1,7 +1,8 @@
-use Rattle.std.proofs.Common.{◌∙◌, ℕ, refl, sym, subst}
+use Rattle.std.proofs.Common.{◌≡◌, ◌∙◌, ℕ, refl, sym, subst}
 use Rattle.losses.specs.Groups.{groups_of, AreGroups, AreCarriers}
 use Rattle.reception.specs.Walks.{readings_of}
 use Rattle.cert.specs.Tallying.{tallied_of}
+use Rattle.cert.specs.declared.verdict.Reason.TheVariants.{Thin}
 use Rattle.cert.proofs.DatagramSteps.{all_sound}
 use Rattle.cert.proofs.Judging.{read_all}
 use Rattle.cert.proofs.Lacking.{carriers_there, enough_certified, groups_there, many}
@@ -43,3 +44,6 @@ returns-clause-survey c = λ says f datagrams each h. (
 
 pub returns-clause-verdict : goal.returns-clause-verdict
 returns-clause-verdict c = λ z datagrams h. enough_certified z c.args.self.now datagrams h (c.lack.ensures.none (rw c.in_default.is refl))
+
+pub returns-in-Some-clause-short : goal.returns-in-Some-clause-short
+returns-in-Some-clause-short c = λ b have need e. (let is : c.in-Some.reason ≡ Thin b have need = cc in c.in-Some.ensures.short b have need is)
