@@ -10,7 +10,6 @@ use Rattle.receiver.specs.Begun.{IsCarrierOf}
 use Rattle.receiver.specs.Receiving.{with_datagram, LeaveNoneShort, ComesEarly}
 use Rattle.receiver.specs.declared.receiver.FeedFault.{FeedFault}
 use Rattle.receiver.specs.declared.receiver.FeedFault.TheVariants.{Fault as NoObject, Full, Early}
-use Rattle.receiver.specs.declared.receiver.FeedFault.TheVariants.{NoMemory}
 use Rattle.commands.specs.Lines.{line_of, named, count_line, answer_text, refusal_words}
 
 -- Why a datagram isn't taken behind those that were: the decoder's answer to them and it is a
@@ -19,7 +18,7 @@ abbrev pub IsNotTaken : Identity → List (List ℕ) → List ℕ → FeedFault 
 IsNotTaken who taken d (NoObject fault) = IsAnswer who (with_datagram taken d) (fault_value fault)
 IsNotTaken who taken d Full = length taken ≡ 2 ^ 64 - 1
 IsNotTaken who taken d Early = ComesEarly who taken d
-IsNotTaken who taken d NoMemory = ⊥
+IsNotTaken who taken d fault = ⊥
 
 -- the line of a datagram that is left out, by its place
 abbrev pub refusal_line : ℕ → FeedFault → List ℕ

@@ -19,7 +19,7 @@ use Rattle.reception.specs.Reception as place_fault
 use Rattle.block_recovery.specs.Faults.{fault_value}
 use Rattle.receiver.specs.declared.receiver.FeedFault.{FeedFault}
 use Rattle.receiver.specs.declared.receiver.FeedFault.TheVariants.{Fault as NoObject, Full, Early}
-use Rattle.receiver.specs.declared.receiver.FeedFault.TheVariants.{NoMemory}
+use Rattle.receiver.specs.declared.receiver.FeedFault.TheVariants.{NoMemory, Failed}
 use Rattle.host.specs.World.{World, KeepsFiles}
 use Rattle.commands.specs.Words.{fti_words, packet_words, frame_words, certificate_words}
 use Rattle.commands.specs.Words.{send_words}
@@ -142,12 +142,13 @@ fault_words (WrongAt place wrong) = wrong_words [] wrong
 fault_words (NotCode block) = not_code_words block
 fault_words answer = []
 
--- why a receiver left a datagram out
+-- why a receiver left a datagram out; that reading or writing has failed is no line
 abbrev pub refusal_words : FeedFault → List ℕ
 refusal_words (NoObject fault) = fault_words (fault_value fault)
 refusal_words Full = codes "G1 Full"
 refusal_words Early = codes "G2 Early"
 refusal_words NoMemory = codes "memory"
+refusal_words Failed = []
 
 -- ---- datagrams
 

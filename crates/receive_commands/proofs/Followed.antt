@@ -75,6 +75,7 @@ nothing_against who taken d sound counted timely (feed.Fault e) = sound e
 nothing_against who taken d sound counted timely feed.Full = counted
 nothing_against who taken d sound counted timely feed.Early = timely
 nothing_against who taken d sound counted timely feed.NoMemory = λ none. none
+nothing_against who taken d sound counted timely feed.Failed = λ none. none
 
 module _ (who : Identity) (opened a b : Option (List ℕ)) (taken : List (List ℕ)) (text : List ℕ) (count n : ℕ) (d : List ℕ) (heard : IsHeard who opened a count taken text)
     (lacks : ¬ LeaveNoneShort who taken) (next : n ≡ count + 1) (one : Consumes a b (frame d)) (short : length d ≤ most_bytes) where
@@ -104,13 +105,14 @@ then_said old mid new lines line p true first second all =
 then_said old mid new lines line p false first second all = second
 
 -- a datagram that was refused, by what the receiver tells of each fault
-pub refused_by : (who : Identity) (taken : List (List ℕ)) (d : List ℕ) (refusal : FeedFault) → refusal ≢ feed.NoMemory
+pub refused_by : (who : Identity) (taken : List (List ℕ)) (d : List ℕ) (refusal : FeedFault) → refusal ≢ feed.NoMemory → refusal ≢ feed.Failed
     → (refusal ≡ feed.Full → IsNotTaken who taken d feed.Full) → (refusal ≡ feed.Early → IsNotTaken who taken d feed.Early)
     → ((fault : DecodeFault) → refusal ≡ feed.Fault fault → IsNotTaken who taken d (feed.Fault fault)) → IsNotTaken who taken d refusal
-refused_by who taken d (feed.Fault fault) some full early faulty = faulty fault refl
-refused_by who taken d feed.Full some full early faulty = full refl
-refused_by who taken d feed.Early some full early faulty = early refl
-refused_by who taken d feed.NoMemory some full early faulty = absurd (some refl)
+refused_by who taken d (feed.Fault fault) some kept full early faulty = faulty fault refl
+refused_by who taken d feed.Full some kept full early faulty = full refl
+refused_by who taken d feed.Early some kept full early faulty = early refl
+refused_by who taken d feed.NoMemory some kept full early faulty = absurd (some refl)
+refused_by who taken d feed.Failed some kept full early faulty = absurd (kept refl)
 
 -- ---- no datagrams
 

@@ -30,7 +30,7 @@ use commands::{
 };
 use decoder::Answer;
 use host::Host;
-use receiver::{FeedFault, FileReceiver, Progress, Unfed};
+use receiver::{FeedFault, FileReceiver, Progress};
 use request::FollowRequest;
 use session::{Failed, Read};
 use std::alloc::{AllocError, Global};
@@ -152,53 +152,24 @@ fn hear<'a, H: Host>(
         → Consumes before after (frame datagram.now) → length datagram.now ≤ most_bytes
         → IsHearing request.now old (H.world host.new) after result.0 result.1 }
 {
-    let (followed, prepared) = prepare(host, request, followed, datagram);
+    let (mut followed, prepared) = prepare(host, request, followed, datagram);
     if let Err(fault) = prepared {
         return (followed, Err(Unwritten::Fault(fault)));
     }
-    let Some(read) = followed.count.checked_add(1) else {
+    let place = followed.count;
+    let Some(read) = place.checked_add(1) else {
         return (followed, Err(Unwritten::Fault(Fault::Memory)));
     };
-    let Followed {
-        mut receiver,
-        count: place,
-        said,
-    } = followed;
-    let count = read;
-    match receiver.feed(alloc, datagram) {
-        Ok(progress) => (
-            Followed {
-                receiver,
-                count,
-                said,
-            },
-            Ok(progress),
-        ),
-        Err(Unfed::Failed) => (
-            Followed {
-                receiver,
-                count,
-                said,
-            },
-            Err(Unwritten::Writing),
-        ),
-        Err(Unfed::Refused(refusal)) => match tell_refusal(alloc, host, place, refusal, said) {
-            Ok(said) => (
-                Followed {
-                    receiver,
-                    count,
-                    said,
-                },
-                Ok(Progress::More),
-            ),
-            Err(AllocError) => (
-                Followed {
-                    receiver,
-                    count,
-                    said,
-                },
-                Err(Unwritten::Fault(Fault::Memory)),
-            ),
+    followed.count = read;
+    match followed.receiver.feed(alloc, datagram) {
+        Ok(progress) => (followed, Ok(progress)),
+        Err(FeedFault::Failed) => (followed, Err(Unwritten::Writing)),
+        Err(refusal) => match tell_refusal(alloc, host, place, refusal, followed.said) {
+            Ok(said) => {
+                followed.said = said;
+                (followed, Ok(Progress::More))
+            }
+            Err(AllocError) => (followed, Err(Unwritten::Fault(Fault::Memory))),
         },
     }
 }
@@ -254,7 +225,8 @@ fn tell_refusal<H: Host>(
     refusal: FeedFault,
     said: bool,
 ) -> Result<bool, AllocError>
-    requires { said ≡ false → (H.world host.old).failed ≡ true }
+    requires said { said ≡ false → (H.world host.old).failed ≡ true }
+    requires refused { refusal ≢ FeedFault.Failed }
     ensures said { IfOk result
         (AreSaid (H.world host.old) (H.world host.new) (refusal_line place refusal)) }
     ensures before { IfOk result (λ told. told ≡ true → said ≡ true) }
@@ -273,6 +245,7 @@ fn tell_refusal<H: Host>(
 }
 
 fn refused_line(alloc: Global, place: usize, fault: FeedFault) -> Result<Text, AllocError>
+    requires { fault ≢ FeedFault.Failed }
     ensures { IfOk result (λ line. line ≡ refusal_line place fault) }
 {
     let mut line = Text::new(alloc);
@@ -285,6 +258,7 @@ fn refused_line(alloc: Global, place: usize, fault: FeedFault) -> Result<Text, A
 
 // Puts why a datagram was refused last.
 fn put_refusal(line: &mut Text, fault: FeedFault) -> Result<(), AllocError>
+    requires { fault ≢ FeedFault.Failed }
     ensures { OnOk result (line.new ≡ line.old ++ refusal_words fault) }
 {
     match fault {
@@ -300,6 +274,7 @@ fn put_refusal(line: &mut Text, fault: FeedFault) -> Result<(), AllocError>
         FeedFault::Full => line.text("G1 Full"),
         FeedFault::Early => line.text("G2 Early"),
         FeedFault::NoMemory => line.text("memory"),
+        FeedFault::Failed => unreachable!(),
     }
 }
 

@@ -1,8 +1,7 @@
-use Rattle.std.proofs.Common.{◌≡◌, ◌≢◌, ◌∙◌, ◌+◌, ◌-◌, ◌^◌, Err, ap, arith, length, subst, sym}
+use Rattle.std.proofs.Common.{rules, ◌≡◌, ◌≢◌, ◌∙◌, ◌+◌, ◌-◌, ◌^◌, Err, ap, arith, length, subst, sym}
 use Rattle.host.specs.World.{World}
 use Rattle.receiver.specs.Receiving.{ComesEarly}
-use Rattle.receiver.specs.declared.receiver.FeedFault.{FeedFault}
-use Rattle.receiver.specs.declared.receiving.Unfed.TheVariants.{Refused}
+use Rattle.receiver.specs.declared.receiver.FeedFault.TheVariants.{Failed}
 use Rattle.receive_commands.specs.Listening.{IsFollowed, HasHeardSome}
 use Rattle.receive_commands.proofs.Followed.{heard_one, refused, refused_by, nothing_against, some_heard, stays_some}
 use Rattle.receive_commands.proofs.follow.hear.Goals as goal
@@ -48,16 +47,17 @@ returns-in-Ok-tell_refusal g c = λ old before after is one short.
     let ready = rw c.in_default.is at (c.prepare-followed.ensures.prepared old before after is one short) in
     let f = c.prepare-followed.result.0 in
     let d = c.args.datagram.now in
-    let refusal = c.in-Err-Refused.refusal in
+    let refusal = c.in-Err-feed.refusal in
     let step = c.in-Some.ensures in
     let next : c.in-Some.read ≡ f.count + 1 = omega (arith, step) in
-    let fed = c.in-Err-Refused.is ∙ ap Err c.in-Err-Refused.field-0-is in
+    let fed = c.in-Err-feed.is in
+    let kept : refusal ≢ Failed = search rules in
     refused c.args.request.now old (g.H.Host.world c.prepare-followed.new.host) before after d f ready one short c.in-Some.read next c.feed.new.self c.feed.ensures.sound
-    c.feed.ensures.identity c.feed.ensures.output refusal (λ ds stands. rw c.in-Err-Refused.field-0-is at (c.in-Err-Refused.ensures.refused ds stands)) (λ ds stands.
-    let faulty = rw c.in-Err-Refused.field-0-is at (c.in-Err-Refused.ensures.fault ds stands) in
-    refused_by f.receiver.receiving.identity ds d refusal c.in-Ok-tell_refusal.ensures.some
-    (λ e. (c.feed.ensures.full ds stands).0 (fed ∙ ap (λ (v : FeedFault). Err (Refused v)) e))
-    (λ e. ((c.feed.ensures.early ds stands).0 (fed ∙ ap (λ (v : FeedFault). Err (Refused v)) e)).1) (λ fault e. rw e at faulty))
+    c.feed.ensures.identity c.feed.ensures.output refusal (λ ds stands. c.in-Err-feed.ensures.refused ds stands kept) (λ ds stands.
+    let faulty = c.in-Err-feed.ensures.fault ds stands in
+    refused_by f.receiver.receiving.identity ds d refusal c.in-Ok-tell_refusal.ensures.some kept
+    (λ e. (c.feed.ensures.full ds stands).0 (fed ∙ ap Err e))
+    (λ e. ((c.feed.ensures.early ds stands).0 (fed ∙ ap Err e)).1) (λ fault e. rw e at faulty))
     (g.H.Host.world c.tell_refusal.new.host) c.in-Ok-tell_refusal.said c.in-Ok-tell_refusal.ensures.said c.in-Ok-tell_refusal.ensures.before c.tell_refusal.ensures.files
 
 pub returns-in-Err-tell_refusal : goal.returns-in-Err-tell_refusal
