@@ -9,16 +9,16 @@ use crate::receiver_tests::{ORDERS, disturbed, feed, is_same, object_of, sent};
 use coder::{Answer, FeedFault, Progress, Receiver};
 use partition::Fti;
 use rand_pcg::Pcg32;
-use receiver::{FileReceiver, Unfed};
+use receiver::FileReceiver;
 use session::Sink;
 use std::alloc::Global;
 use std::test::Fail;
 
 // Whether both say the same of a datagram.
-fn is_same_told(filed: Result<Progress, Unfed>, held: Result<Progress, FeedFault>) -> bool {
+fn is_same_told(filed: Result<Progress, FeedFault>, held: Result<Progress, FeedFault>) -> bool {
     match (filed, held) {
         (Ok(filed), Ok(held)) => filed == held,
-        (Err(Unfed::Refused(filed)), Err(held)) => filed == held,
+        (Err(filed), Err(held)) => filed == held,
         _ => false,
     }
 }
@@ -45,7 +45,7 @@ fn feed_filed(
     receiver: FileReceiver<Sink>,
     output: Sink,
     datagram: &[u8],
-) -> (FileReceiver<Sink>, Result<Progress, Unfed>)
+) -> (FileReceiver<Sink>, Result<Progress, FeedFault>)
     requires sound { IsSoundIn receiver.receiving.store }
     requires empty { output.bytes.items ≡ [] }
     ensures { IsSoundIn result.0.receiving.store }
@@ -143,7 +143,7 @@ fn in_an_output(rt: HostRuntime) -> Result<(), Fail> {
 }
 
 // The carrier of a pair of bytes, with an output that has room for so many.
-fn fed_with_room(alloc: Global, room: usize) -> Result<Progress, Unfed> {
+fn fed_with_room(alloc: Global, room: usize) -> Result<Progress, FeedFault> {
     let receiver = FileReceiver::new(ONE);
     let output = Sink::limited(alloc, 1, room);
     let (_receiver, fed) = feed_filed(alloc, receiver, output, &FIRST_ALONE[2..35]);
@@ -154,7 +154,7 @@ fn fed_with_room(alloc: Global, room: usize) -> Result<Progress, Unfed> {
 #[test]
 fn in_an_output_that_fails(rt: HostRuntime) -> Result<(), Fail> {
     let alloc = rt.alloc();
-    assert!(rt; matches!(fed_with_room(alloc, 1), Err(Unfed::Failed)));
+    assert!(rt; matches!(fed_with_room(alloc, 1), Err(FeedFault::Failed)));
     assert!(rt; matches!(fed_with_room(alloc, 2), Ok(Progress::More)));
     Ok(())
 }
