@@ -1,11 +1,9 @@
 -- Handles of checkers.
-use Rattle.std.specs.Prelude.{◌≡◌, ℕ, Bool, true, false, List, Some, ⊤}
+use Rattle.std.specs.Prelude.{◌≡◌, ℕ, Bool, true, false, List, Some, Ok, Err, alloc_error, ⊤}
 use Rattle.reception.specs.declared.scope.Identity.{Identity}
 use Rattle.certificate.specs.Certificate.{Certificate}
 use Rattle.cert.specs.Fed.{IsFed, WasFed, ended_of}
 use Rattle.cert.specs.declared.verdict.Reason.{Reason}
-use Rattle.cert.specs.declared.fault.NoReport.TheVariants.{Reason as ByReason, Fault}
-use Rattle.cert.specs.declared.fault.CheckFault.TheVariants.{NoMemory}
 use Rattle.alcrs_c.specs.Ready.{IsReady}
 use Rattle.alcrs_c.specs.declared.checker.AlcrsChecker.{AlcrsChecker}
 
@@ -28,11 +26,11 @@ pub record IsOpen (h : AlcrsChecker) (who : Identity) (object : List ℕ) (z : C
 
 -- its check has ended for this reason
 abbrev pub IsOver : AlcrsChecker → Reason → Type 0
-IsOver h reason = (h.is_open ≡ true) × (ended_of h.held.value ≡ Some (ByReason reason))
+IsOver h reason = (h.is_open ≡ true) × (ended_of h.held.value ≡ Some (Ok reason))
 
 -- its check has ended for want of memory
 abbrev pub Lacks : AlcrsChecker → Type 0
-Lacks h = (h.is_open ≡ true) × (ended_of h.held.value ≡ Some (Fault NoMemory))
+Lacks h = (h.is_open ≡ true) × (ended_of h.held.value ≡ Some (Err alloc_error))
 
 -- the handle is open with a checker that is ready
 pub record IsOpenFor (h : AlcrsChecker) (who : Identity) (object certificate : List ℕ)

@@ -13,5 +13,4 @@ pub mod Ownership
 pub mod Handles
 pub mod Fed
 pub mod Ready
-pub mod Unready
 pub mod CheckerHandles

@@ -4,7 +4,8 @@ ghost use Rattle.std.specs.Prelude.{None, length, map, IsNone, IfSome, IfOk, IfE
 ghost use Rattle.session.specs.Frames.{most_bytes};
 ghost use Rattle.session.specs.declared.frame.FrameFault.TheVariants.{TooLong};
 ghost use Rattle.reception.specs.declared.scope.Identity.{Identity as IdentityValue};
-ghost use Rattle.certificate.specs.Certificate.{Certificate as CertificateValue, text_fault};
+ghost use Rattle.certificate.specs.Certificate.{Certificate as CertificateValue, IsCertFault};
+ghost use Rattle.certificate.specs.Certificate.{text_fault};
 ghost use Rattle.cert.specs.Feeding.{IsNoToAll, IsReasonSoFar};
 ghost use Rattle.cert.specs.Verdict.{IsVerdict};
 ghost use Rattle.certificate.specs.declared.certificate.CertFault.{CertFault as CertFaultValue};
@@ -14,7 +15,6 @@ ghost use Rattle.alcrs_c.specs.Asked.{identity_of};
 ghost use Rattle.alcrs_c.specs.CheckerHandles.{IsHandle, IsOpen, IsOpenFor, IsOver, Lacks};
 ghost use Rattle.alcrs_c.specs.Fed.{IsNoAtOnce, IsYes};
 ghost use Rattle.alcrs_c.specs.Ready.{IsReady};
-ghost use Rattle.alcrs_c.specs.Unready.{IsUnready};
 ghost use Rattle.alcrs_c.specs.Statuses.{ok, no, no_session, no_certificate, no_memory, is_open};
 ghost use Rattle.alcrs_c.specs.Statuses.{not_open, IsOneOf, in_front};
 ghost use Rattle.alcrs_c.specs.Told.{told_reason, told_report, told_block, told_frame};
@@ -28,7 +28,7 @@ use crate::told::{
     AlcrsBlock, AlcrsFault, AlcrsReport, certificate_fault, frame_fault, put_blocks, put_kill,
     reason_fault, report_numbers,
 };
-use cert::{CheckFault, Checker, NoReport, Verdict};
+use cert::{CheckFault, Checker, Reason, Verdict};
 use certificate::CertFault;
 use reception::Identity;
 use session::FrameFault;
@@ -69,23 +69,30 @@ fn put_in(handle: &mut AlcrsChecker, checker: Box<Checker<'static>>)
     handle.held.put(Apart::from_box(checker));
 }
 
-// A checker with copies of an object and of a certificate.
+// A checker with copies of an object and of a certificate, or the reason that no datagram changes.
 fn checker_of(
     alloc: Global,
     object: &[u8],
     certificate: &[u8],
     identity: Identity,
-) -> Result<Checker<'static>, NoReport>
-    ensures ready { IfOk result (IsReady identity object.now certificate.now) }
-    ensures unready { IfErr result (IsUnready identity object.now certificate.now) }
+) -> Result<Result<Checker<'static>, Reason>, CertFault>
+    ensures ready { IfOk result (λ r. IfOk r (IsReady identity object.now certificate.now)) }
+    ensures no { IfOk result (λ r. IfErr r (IsNoAtOnce identity object.now certificate.now)) }
+    ensures fault { IfErr result (λ e. IsCertFault e (Some certificate.now) false) }
 {
-    let certificate = match read_certificate(alloc, certificate) {
-        Ok(certificate) => certificate,
-        Err(CertFault::NoMemory) => return Err(NoReport::Fault(CheckFault::NoMemory)),
-        Err(fault) => return Err(NoReport::Fault(CheckFault::Certificate(fault))),
+    let certificate = read_certificate(alloc, certificate)?;
+    let Ok(object) = object.to_vec(alloc) else {
+        return Err(CertFault::NoMemory);
     };
-    let object = CowSlice::Owned(object.to_vec(alloc)?);
-    Checker::new(alloc, object, certificate.into_view(), identity)
+    match Checker::new(
+        alloc,
+        CowSlice::Owned(object),
+        certificate.into_view(),
+        identity,
+    ) {
+        Ok(answer) => Ok(answer),
+        Err(_) => Err(CertFault::NoMemory),
+    }
 }
 
 /// Opens a handle for the check of an identity's packets, with an object and a certificate, of
@@ -130,23 +137,22 @@ pub extern "C" fn alcrs_checker_open(
         return status::IS_OPEN;
     }
     match checker_of(alloc, object, certificate, identity(tsi, toi_high, toi_low)) {
-        Ok(checker) => match Box::new(alloc, checker) {
+        Ok(Ok(checker)) => match Box::new(alloc, checker) {
             Ok(checker) => {
                 put_in(handle, checker);
                 status::OK
             }
             Err(_) => status::NO_MEMORY,
         },
-        Err(NoReport::Reason(reason)) => {
+        Ok(Err(reason)) => {
             *fault = reason_fault(reason);
             status::NO
         }
-        Err(NoReport::Fault(CheckFault::Certificate(e))) => {
+        Err(CertFault::NoMemory) => status::NO_MEMORY,
+        Err(e) => {
             *fault = certificate_fault(e);
             status::NO_CERTIFICATE
         }
-        Err(NoReport::Fault(CheckFault::NoMemory)) => status::NO_MEMORY,
-        Err(NoReport::Fault(_)) => unreachable!(),
     }
 }
 

@@ -20,11 +20,11 @@ use crate::frames::datagrams_of;
 use crate::input::identity;
 use crate::status;
 use crate::told::{AlcrsFault, certificate_fault, frame_fault, put_bytes, reason_fault};
-use cert::{CheckFault, Checker, NoReport, Reason, Verdict};
+use cert::{CheckFault, Checker, Reason, Verdict};
 use certificate::{CertFault, CertificateView};
 use reception::Identity;
 use session::FrameFault;
-use std::alloc::Global;
+use std::alloc::{AllocError, Global};
 use std::borrow::CowSlice;
 
 /// A twin, and the block that is short.
@@ -44,30 +44,34 @@ enum Untwinned {
     NoMemory,
 }
 
-// A check that was fed the datagrams.
+// A check that was fed the datagrams, or the reason that none of them changes.
 fn fed<'a>(
     alloc: Global,
     datagrams: &[&[u8]],
     object: &'a [u8],
     certificate: CertificateView<'a>,
     identity: Identity,
-) -> Result<Checker<'a>, NoReport>
+) -> Result<Result<Checker<'a>, Reason>, AllocError>
     requires { AreDatagrams (map (λ d. d.now) datagrams.now) }
-    ensures fed { IfOk result (λ checker. IsFed checker identity object.now certificate.entry
-        (map (λ d. d.now) datagrams.now)) }
-    ensures no { IfErr result (λ e. (r : ReasonValue) → e ≡ NoReport.Reason r
-        → IsVerdict identity (map (λ d. d.now) datagrams.now) object.now certificate.entry
-        (Verdict.No r) × (short_of r ≡ None)) }
+    ensures fed { IfOk result (λ r. IfOk r (λ checker. IsFed checker identity object.now
+        certificate.entry (map (λ d. d.now) datagrams.now))) }
+    ensures no { IfOk result (λ r. IfErr r (λ reason. IsVerdict identity
+        (map (λ d. d.now) datagrams.now) object.now certificate.entry (Verdict.No reason)
+        × (short_of reason ≡ None))) }
 {
-    let mut checker = Checker::new(alloc, CowSlice::Borrowed(object), certificate, identity)?;
+    let object = CowSlice::Borrowed(object);
+    let mut checker = match Checker::new(alloc, object, certificate, identity)? {
+        Ok(checker) => checker,
+        Err(reason) => return Ok(Err(reason)),
+    };
     for datagram in datagrams {
         match checker.feed(datagram) {
             Ok(_) => {}
             Err(CheckFault::Frame(_)) => unreachable!(),
-            Err(fault) => return Err(NoReport::Fault(fault)),
+            Err(_) => return Err(AllocError),
         }
     }
-    Ok(checker)
+    Ok(Ok(checker))
 }
 
 // The twin that the verdict on the datagrams asks for.
@@ -85,9 +89,9 @@ fn twin_in(
         object.now certificate.entry) }
 {
     let checker = match fed(alloc, datagrams, object, certificate, identity) {
-        Ok(checker) => checker,
-        Err(NoReport::Reason(reason)) => return Err(Untwinned::No(reason)),
-        Err(NoReport::Fault(_)) => return Err(Untwinned::NoMemory),
+        Ok(Ok(checker)) => checker,
+        Ok(Err(reason)) => return Err(Untwinned::No(reason)),
+        Err(_) => return Err(Untwinned::NoMemory),
     };
     let reason = match checker.verdict(alloc) {
         Ok(Verdict::Yes(_)) => return Err(Untwinned::NoneShort),

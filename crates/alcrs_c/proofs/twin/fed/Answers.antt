@@ -19,4 +19,4 @@ loop-datagram-preserved c =
     let d : Bor (List ℕ) = get_or c.args.datagrams.now c.loop-datagram.datagram-index (record { ref_ptr = (0, 0); now = [] }) in
     let is = get_or_default ds i (record { ref_ptr = (0, 0); now = [] }) d c.loop-datagram-test.true in
     rw (next_fed ds i d c.loop-datagram-test.true is)
-    (c.in-Ok.ensures.fed c.args.identity c.args.object.now c.args.certificate (map (λ b. b.now) (take i ds)) c.loop-datagram.invariant)
+    (c.in-Ok-feed.ensures.fed c.args.identity c.args.object.now c.args.certificate (map (λ b. b.now) (take i ds)) c.loop-datagram.invariant)
