@@ -94,6 +94,3 @@ module _ (checker : Checker) (who : Identity) (object : List ℕ) (z : Certifica
 
   pub fed_with_reason : (r : Reason) → checker.ended ≡ Some (Ok r) → AreDatagrams ds → IsNoToAll who ds object z r → IsFed checker who object z ds
   fed_with_reason r ended each h = record { each = each; stands = rw ended h }
-
-  pub fed_on : checker.ended ≡ None → AreDatagrams ds → IsWalkOver checker.walk who object z ds → IsFed checker who object z ds
-  fed_on ended each h = record { each = each; stands = rw ended h }

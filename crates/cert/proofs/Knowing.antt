@@ -1,5 +1,5 @@
 -- A look where the FTI is known: nothing is learned.
-use Rattle.std.proofs.Common.{◌≡◌, true, false, List, ℕ, Option, Some, None, Result, Ok, Err, refl, ap, subst, ◌∙◌}
+use Rattle.std.proofs.Common.{◌≡◌, true, false, List, ℕ, Option, Some, None, Result, Err, refl, ap, subst, ◌∙◌}
 use Rattle.std.specs.Prelude.{is_some, if◌then◌else◌}
 use Rattle.std.specs.Option.{option_or}
 use Rattle.partition.specs.Fti.{Fti}
@@ -7,10 +7,8 @@ use Rattle.alc.specs.Reading.{Reading}
 use Rattle.reception.specs.declared.scope.Scope.{Scope}
 use Rattle.alc.specs.declared.fault.PacketFault.{PacketFault}
 use Rattle.reception.specs.declared.scope.Look.{Look}
-use Rattle.reception.specs.declared.scope.Look.TheVariants as look_at
 use Rattle.reception.specs.Reception.{Faulty, PlaceFault, counts, carried, learned}
 use Rattle.reception.specs.Step.{IsLook, after, looked}
-use Rattle.reception.proofs.Looks.{never_early}
 use Rattle.cert.specs.Tallying.{IsRefusedAt}
 use Rattle.cert.specs.Verdict.{reason_at}
 
@@ -30,14 +28,6 @@ same_after scope r h = elim (counts scope.identity r) as (λ v. (if v then learn
 pub look_known : (d : List ℕ) (scope new : Scope) (answer : Result Look PacketFault) → is_some scope.fti ≡ true → IsLook d scope new answer → IsLook d scope scope answer
 look_known d scope new answer known h =
     subst (λ (s : Scope). IsLook d scope s answer) (h.scope ∙ same_after scope h.reading known) h
-
-there : (o : Option Fti) → is_some o ≡ true → (f : Fti) × (o ≡ Some f)
-there (Some f) h = (f, refl)
-there None h = absurd (cc)
-
--- and no packet is early
-pub never_early_known : (d : List ℕ) (scope new : Scope) → is_some scope.fti ≡ true → IsLook d scope new (Ok look_at.Early) → ⊥
-never_early_known d scope new known h = let f = there scope.fti known in never_early d scope new h f.0 f.1
 
 -- a fault is the reason at a place
 pub refused_known : (d : List ℕ) (scope new : Scope) (place : ℕ) (answer : Result Look PacketFault) (fault : PlaceFault) → is_some scope.fti ≡ true → IsLook d scope new answer → looked answer ≡ Err fault
