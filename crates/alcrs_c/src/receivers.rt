@@ -151,6 +151,7 @@ pub extern "C" fn alcrs_receiver_feed(
         Err(FeedFault::Early) => status::EARLY,
         Err(FeedFault::Full) => status::FULL,
         Err(FeedFault::NoMemory) => status::NO_MEMORY,
+        Err(FeedFault::Failed) => unreachable!(),
     }
 }
 
