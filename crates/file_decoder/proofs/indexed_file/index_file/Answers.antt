@@ -43,5 +43,5 @@ pub returns-in-Err-2-clause-indexed : goal.returns-in-Err-2-clause-indexed
 returns-in-Err-2-clause-indexed g c =
     let content = g.F.ReadAt.content c.args.file.now in
     fault_indexed c.args.identity content c.in-Err-2.fault c.in_ok-symbols.ensures.whole (λ x ds told framed.
-        let known = rw (c.in-Ok-Some.is, c.in-Ok-Some.field-0-is) at (c.in_ok-fti.ensures.carrier x ds told framed) in
-        rw c.in-Err-2.is at (c.in_ok-symbols.ensures.fault x ds told framed known))
+    let known = rw (c.in-Ok-Some.is, c.in-Ok-Some.field-0-is) at (c.in_ok-fti.ensures.carrier x ds told framed) in
+    rw c.in-Err-2.is at (c.in_ok-symbols.ensures.fault x ds told framed known))
