@@ -1,5 +1,6 @@
 -- What is put into the text of a chart.
 use Rattle.std.specs.Prelude.{◌≡◌, ◌++◌, ℕ, List, true, is_ok, string_bytes, codes, decimal}
+use Rattle.std.specs.Prelude.{[], ◌∷◌, ◌%◌, ◌==◌, ◌&&◌, nat_lt, length, if◌then◌else◌}
 use Rattle.chart.specs.declared.canvas.Canvas.{Canvas}
 use Rattle.chart.specs.declared.panel.Bar.{Bar}
 
@@ -7,6 +8,15 @@ use Rattle.chart.specs.declared.panel.Bar.{Bar}
 pub record Puts (old new : Canvas) (text : List ℕ) : Type 0 where
   pub had : is_ok new.outcome ≡ true → is_ok old.outcome ≡ true
   pub behind : is_ok new.outcome ≡ true → string_bytes new.text ≡ string_bytes old.text ++ text
+
+-- what stands before so many digits that are left of a number: between thousands a comma
+abbrev pub comma_before : ℕ → List ℕ
+comma_before left = if nat_lt 0 left && (left % 3 == 0) then codes "," else []
+
+-- a number's digits with a comma between thousands
+abbrev pub thousands_text : List ℕ → List ℕ
+thousands_text [] = []
+thousands_text (digit ∷ digits) = digit ∷ comma_before (length digits) ++ thousands_text digits
 
 -- an attribute with a number
 abbrev pub attribute_text : List ℕ → ℕ → List ℕ

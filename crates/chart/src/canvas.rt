@@ -1,6 +1,7 @@
 //! The text of a sheet.
 ghost use Rattle.std.specs.Prelude.{◌≡◌, ◌++◌, [], IfOk, true, is_ok, string_bytes, codes};
-ghost use Rattle.chart.specs.Texts.{Puts, attribute_text, words_tag};
+ghost use Rattle.std.specs.Prelude.{encode_utf8};
+ghost use Rattle.chart.specs.Texts.{Puts, attribute_text, words_tag, comma_before, thousands_text};
 
 use itoa::{Buffer, Integer};
 use std::alloc::{AllocError, Global};
@@ -59,7 +60,9 @@ impl Canvas {
         }
     }
 
-    fn put_letter(&mut self, letter: char) {
+    fn put_letter(&mut self, letter: char)
+        ensures { Puts self.old self.new (encode_utf8 letter) }
+    {
         if self.outcome.is_ok() {
             self.outcome = self.text.push(letter);
         }
@@ -74,14 +77,25 @@ impl Canvas {
     }
 
     /// Puts a number last, with a comma between thousands.
-    pub fn thousands<I: Integer>(&mut self, number: I) {
+    pub fn thousands<I: Integer>(&mut self, number: I)
+        ensures { Puts self.old self.new (thousands_text (I.text number)) }
+    {
         let mut buffer = Buffer::new();
         let digits = buffer.format(number);
-        for (place, digit) in digits.chars().enumerate() {
-            if place > 0 && digits.len().saturating_sub(place) % 3 == 0 {
-                self.put_letter(',');
-            }
-            self.put_letter(digit);
+        let mut left = digits.len();
+        for digit in digits.as_bytes() {
+            self.put_letter(char::from(*digit));
+            left -= 1;
+            self.put_comma(left);
+        }
+    }
+
+    // Puts a comma before so many digits that are left of a number, where one stands there.
+    fn put_comma(&mut self, left: usize)
+        ensures { Puts self.old self.new (comma_before left) }
+    {
+        if left > 0 && left % 3 == 0 {
+            self.put(",");
         }
     }
 
