@@ -18,6 +18,11 @@ abbrev pub thousands_text : List ℕ → List ℕ
 thousands_text [] = []
 thousands_text (digit ∷ digits) = digit ∷ comma_before (length digits) ++ thousands_text digits
 
+-- a number of things, by the name of one and of several
+abbrev pub count_text : ℕ → List ℕ → List ℕ → List ℕ
+count_text number one several =
+    thousands_text (decimal number) ++ codes " " ++ (if number == 1 then one else several)
+
 -- an attribute with a number
 abbrev pub attribute_text : List ℕ → ℕ → List ℕ
 attribute_text name number = codes " " ++ name ++ codes "=\"" ++ decimal number ++ codes "\""

@@ -2,6 +2,7 @@
 ghost use Rattle.std.specs.Prelude.{◌≡◌, ◌++◌, [], IfOk, true, is_ok, string_bytes, codes};
 ghost use Rattle.std.specs.Prelude.{encode_utf8};
 ghost use Rattle.chart.specs.Texts.{Puts, attribute_text, words_tag, comma_before, thousands_text};
+ghost use Rattle.chart.specs.Texts.{count_text};
 
 use itoa::{Buffer, Integer};
 use std::alloc::{AllocError, Global};
@@ -101,7 +102,9 @@ impl Canvas {
 
     /// Puts a number of things last, as `1 block` or `1,200 blocks`, by the name of one and of
     /// several.
-    pub fn count(&mut self, number: usize, one: &str, several: &str) {
+    pub fn count(&mut self, number: usize, one: &str, several: &str)
+        ensures { Puts self.old self.new (count_text number one.now several.now) }
+    {
         self.thousands(number);
         self.put(" ");
         self.put(if number == 1 { one } else { several });
