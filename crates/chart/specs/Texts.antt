@@ -1,8 +1,13 @@
 -- What is put into the text of a chart.
 use Rattle.std.specs.Prelude.{◌≡◌, ◌++◌, ℕ, List, true, is_ok, string_bytes, codes, decimal}
 use Rattle.std.specs.Prelude.{[], ◌∷◌, ◌%◌, ◌==◌, ◌&&◌, nat_lt, length, if◌then◌else◌}
+use Rattle.std.specs.Prelude.{◌+◌, ◌-◌, ◌*◌, nat_le, map, filter, flat_map}
+use Rattle.std.specs.List.{range_with_len}
+use Rattle.chart.specs.Scaled.{scaled}
 use Rattle.chart.specs.declared.canvas.Canvas.{Canvas}
+use Rattle.chart.specs.declared.panel.Axis.{Axis}
 use Rattle.chart.specs.declared.panel.Bar.{Bar}
+use Rattle.chart.specs.declared.panel.Panel.{Panel}
 
 -- where memory hasn't lacked so far, it hadn't before, and this text was put last
 pub record Puts (old new : Canvas) (text : List ℕ) : Type 0 where
@@ -42,3 +47,25 @@ abbrev pub bar_text : Bar → List ℕ
 bar_text bar =
     codes "M" ++ decimal bar.x ++ codes " " ++ decimal bar.y ++ codes "h" ++ decimal bar.width
     ++ codes "v" ++ decimal bar.height ++ codes "h-" ++ decimal bar.width ++ codes "z"
+
+-- the values that horizontal lines stand at: 0 and the first five steps, those that aren't above
+-- the top
+abbrev pub line_values : Axis → List ℕ
+line_values axis =
+    filter (λ value. nat_le value axis.top) (map (λ line. axis.unit * line) (range_with_len 0 6))
+
+-- where a value stands in a panel
+abbrev pub y_of : Panel → Axis → ℕ → ℕ
+y_of panel axis value = panel.top + panel.height - scaled 0 panel.height axis.top value
+
+-- a horizontal line in a path
+abbrev pub line_text : Panel → ℕ → List ℕ
+line_text panel y =
+    codes "M" ++ decimal panel.left ++ codes " " ++ decimal y ++ codes "h" ++ decimal panel.width
+
+-- a panel's horizontal lines
+abbrev pub lines_text : Panel → Axis → List ℕ
+lines_text panel axis =
+    codes "<path stroke=\"#ccc\" stroke-width=\"2\" d=\""
+    ++ flat_map (λ value. line_text panel (y_of panel axis value)) (line_values axis)
+    ++ codes "\"/>\n"

@@ -1,7 +1,7 @@
 //! Where a panel stands, its bars and its horizontal lines.
-ghost use Rattle.std.specs.Prelude.{◌≡◌, ◌≤◌, ◌+◌, ◌-◌, ◌++◌, codes};
+ghost use Rattle.std.specs.Prelude.{◌≡◌, ◌≤◌, ◌+◌, ◌-◌, ◌*◌, ◌++◌, SomeIff, codes};
 ghost use Rattle.chart.specs.Scaled.{scaled};
-ghost use Rattle.chart.specs.Texts.{Puts, bar_text, path_tag};
+ghost use Rattle.chart.specs.Texts.{Puts, bar_text, path_tag, line_text, lines_text};
 
 use crate::canvas::{Canvas, SMALL_END};
 use crate::scale::Scale;
@@ -38,6 +38,15 @@ impl Axis {
             unit: greatest,
             top: greatest,
         }
+    }
+
+    // The value of a horizontal line, counted from 0, where it isn't above the top.
+    fn value_of(self, line: usize) -> Option<usize>
+        ensures { SomeIff result (self.unit * line ≤ self.top) (self.unit * line) }
+    {
+        self.unit
+            .checked_mul(line)
+            .filter(|value| *value <= self.top)
     }
 }
 
@@ -160,18 +169,21 @@ impl Panel {
     }
 
     /// Puts the horizontal lines.
-    pub fn put_lines(self, canvas: &mut Canvas, axis: Axis) {
+    pub fn put_lines(self, canvas: &mut Canvas, axis: Axis)
+        ensures { Puts canvas.old canvas.new (lines_text self axis) }
+    {
         canvas.put("<path stroke=\"#ccc\" stroke-width=\"2\" d=\"");
-        for line in 0..=5usize {
-            let value = axis.unit.saturating_mul(line);
-            if value <= axis.top {
+        for line in 0..6usize {
+            if let Some(value) = axis.value_of(line) {
                 self.put_line(canvas, self.y(axis, value));
             }
         }
         canvas.put("\"/>\n");
     }
 
-    fn put_line(self, canvas: &mut Canvas, y: usize) {
+    fn put_line(self, canvas: &mut Canvas, y: usize)
+        ensures { Puts canvas.old canvas.new (line_text self y) }
+    {
         canvas.put("M");
         canvas.number(self.left);
         canvas.put(" ");
