@@ -48,8 +48,8 @@ bar_text bar =
     codes "M" ++ decimal bar.x ++ codes " " ++ decimal bar.y ++ codes "h" ++ decimal bar.width
     ++ codes "v" ++ decimal bar.height ++ codes "h-" ++ decimal bar.width ++ codes "z"
 
--- the values that horizontal lines stand at: 0 and the first five steps, those that aren't above
--- the top
+-- the values that have a horizontal line: of the first six multiples of the step, those that aren't
+-- above the top
 abbrev pub line_values : Axis → List ℕ
 line_values axis =
     filter (λ value. nat_le value axis.top) (map (λ line. axis.unit * line) (range_with_len 0 6))
@@ -58,14 +58,25 @@ line_values axis =
 abbrev pub y_of : Panel → Axis → ℕ → ℕ
 y_of panel axis value = panel.top + panel.height - scaled 0 panel.height axis.top value
 
--- a horizontal line in a path
-abbrev pub line_text : Panel → ℕ → List ℕ
-line_text panel y =
-    codes "M" ++ decimal panel.left ++ codes " " ++ decimal y ++ codes "h" ++ decimal panel.width
+-- a value's horizontal line, in a path
+abbrev pub line_text : Panel → Axis → ℕ → List ℕ
+line_text panel axis value =
+    codes "M" ++ decimal panel.left ++ codes " " ++ decimal (y_of panel axis value)
+    ++ codes "h" ++ decimal panel.width
 
 -- a panel's horizontal lines
 abbrev pub lines_text : Panel → Axis → List ℕ
 lines_text panel axis =
     codes "<path stroke=\"#ccc\" stroke-width=\"2\" d=\""
-    ++ flat_map (λ value. line_text panel (y_of panel axis value)) (line_values axis)
-    ++ codes "\"/>\n"
+    ++ flat_map (line_text panel axis) (line_values axis) ++ codes "\"/>\n"
+
+-- a value, beside its horizontal line
+abbrev pub value_text : Panel → Axis → ℕ → List ℕ
+value_text panel axis value =
+    words_tag (panel.left - 14) (y_of panel axis value + 8)
+    (codes "font-size=\"22\" fill=\"#444\" text-anchor=\"end\"")
+    ++ thousands_text (decimal value) ++ codes "</text>\n"
+
+-- the values of a panel's horizontal lines
+abbrev pub values_text : Panel → Axis → List ℕ
+values_text panel axis = flat_map (value_text panel axis) (line_values axis)

@@ -2,6 +2,7 @@
 ghost use Rattle.std.specs.Prelude.{◌≡◌, ◌≤◌, ◌+◌, ◌-◌, ◌*◌, ◌++◌, SomeIff, codes};
 ghost use Rattle.chart.specs.Scaled.{scaled};
 ghost use Rattle.chart.specs.Texts.{Puts, bar_text, path_tag, line_text, lines_text};
+ghost use Rattle.chart.specs.Texts.{value_text, values_text};
 
 use crate::canvas::{Canvas, SMALL_END};
 use crate::scale::Scale;
@@ -175,36 +176,40 @@ impl Panel {
         canvas.put("<path stroke=\"#ccc\" stroke-width=\"2\" d=\"");
         for line in 0..6usize {
             if let Some(value) = axis.value_of(line) {
-                self.put_line(canvas, self.y(axis, value));
+                self.put_line(canvas, axis, value);
             }
         }
         canvas.put("\"/>\n");
     }
 
-    fn put_line(self, canvas: &mut Canvas, y: usize)
-        ensures { Puts canvas.old canvas.new (line_text self y) }
+    fn put_line(self, canvas: &mut Canvas, axis: Axis, value: usize)
+        ensures { Puts canvas.old canvas.new (line_text self axis value) }
     {
         canvas.put("M");
         canvas.number(self.left);
         canvas.put(" ");
-        canvas.number(y);
+        canvas.number(self.y(axis, value));
         canvas.put("h");
         canvas.number(self.width);
     }
 
     /// Puts the values of the horizontal lines beside them.
-    pub fn put_values(self, canvas: &mut Canvas, axis: Axis) {
-        for line in 0..=5usize {
-            let value = axis.unit.saturating_mul(line);
-            if value <= axis.top {
-                self.put_value(canvas, value, self.y(axis, value));
+    pub fn put_values(self, canvas: &mut Canvas, axis: Axis)
+        ensures { Puts canvas.old canvas.new (values_text self axis) }
+    {
+        for line in 0..6usize {
+            if let Some(value) = axis.value_of(line) {
+                self.put_value(canvas, axis, value);
             }
         }
     }
 
-    fn put_value(self, canvas: &mut Canvas, value: usize, y: usize) {
+    fn put_value(self, canvas: &mut Canvas, axis: Axis, value: usize)
+        ensures { Puts canvas.old canvas.new (value_text self axis value) }
+    {
         let x = self.left().saturating_sub(14);
-        canvas.begin_words(x, y.saturating_add(8), SMALL_END);
+        let y = self.y(axis, value) + 8;
+        canvas.begin_words(x, y, SMALL_END);
         canvas.thousands(value);
         canvas.end_words();
     }
