@@ -1,2 +1,3 @@
 mod Lines
+mod Names
 mod Putting

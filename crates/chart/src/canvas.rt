@@ -1,8 +1,9 @@
 //! The text of a sheet.
 ghost use Rattle.std.specs.Prelude.{◌≡◌, ◌++◌, [], IfOk, true, is_ok, string_bytes, codes};
-ghost use Rattle.std.specs.Prelude.{encode_utf8};
+ghost use Rattle.std.specs.Prelude.{◌-◌, ◌||◌, nat_le, encode_utf8};
+ghost use Rattle.std.specs.Str.{chars};
 ghost use Rattle.chart.specs.Texts.{Puts, attribute_text, words_tag, comma_before, thousands_text};
-ghost use Rattle.chart.specs.Texts.{count_text};
+ghost use Rattle.chart.specs.Texts.{count_text, width_of, width, escaped, name_text};
 
 use itoa::{Buffer, Integer};
 use std::alloc::{AllocError, Global};
@@ -163,7 +164,9 @@ impl Canvas {
     }
 
     /// Puts a name last, escaped. Of a long one it is the beginning and the end.
-    pub fn name(&mut self, name: &str) {
+    pub fn name(&mut self, name: &str)
+        ensures { Puts self.old self.new (name_text (chars name.now)) }
+    {
         let whole = letters_of(name);
         let mut before = 0usize;
         let mut is_cut = false;
@@ -172,7 +175,7 @@ impl Canvas {
             if is_shown(before, end, whole) {
                 self.escaped(letter);
             } else if !is_cut {
-                self.put("\u{2026}");
+                self.put_letter('\u{2026}');
                 is_cut = true;
             }
             before = end;
@@ -181,7 +184,9 @@ impl Canvas {
 
     // Puts a letter of a name. What can't be shown, or must not stand in XML, is the replacement
     // character.
-    fn escaped(&mut self, letter: char) {
+    fn escaped(&mut self, letter: char)
+        ensures { Puts self.old self.new (escaped letter) }
+    {
         match letter {
             '&' => self.put("&amp;"),
             '<' => self.put("&lt;"),
@@ -189,7 +194,7 @@ impl Canvas {
             '"' => self.put("&quot;"),
             '\'' => self.put("&apos;"),
             '\u{0}'..='\u{1f}' | '\u{7f}'..='\u{9f}' | '\u{fffe}' | '\u{ffff}' => {
-                self.put("\u{fffd}")
+                self.put_letter('\u{fffd}')
             }
             _ => self.put_letter(letter),
         }
@@ -197,12 +202,16 @@ impl Canvas {
 }
 
 // How wide a letter may be.
-fn width_of(letter: char) -> usize {
+fn width_of(letter: char) -> usize
+    ensures { result ≡ width_of letter }
+{
     if letter.is_ascii() { 1 } else { 2 }
 }
 
 // How wide a name may be.
-fn letters_of(name: &str) -> usize {
+fn letters_of(name: &str) -> usize
+    ensures { result ≡ width (chars name.now) }
+{
     let mut letters = 0usize;
     for letter in name.chars() {
         letters = letters.saturating_add(width_of(letter));
@@ -212,7 +221,9 @@ fn letters_of(name: &str) -> usize {
 
 // Whether a letter from `before` to `end` of a name is shown: it is in a short name, or in the
 // first or the last half of what is shown of a long one.
-fn is_shown(before: usize, end: usize, whole: usize) -> bool {
+fn is_shown(before: usize, end: usize, whole: usize) -> bool
+    ensures { result ≡ (nat_le whole 70 || nat_le end 35 || nat_le (whole - 33) before) }
+{
     whole <= NAME_LETTERS
         || end <= NAME_LETTERS / 2
         || before >= whole.saturating_sub(NAME_LETTERS / 2 - 2)
