@@ -22,7 +22,7 @@ use poly::Poly;
 use reception::{Identity, Look, Scope};
 use session::Session;
 use std::alloc::{AllocError, Global};
-use streams::{ReadAt, Write, fill_at, write_all};
+use streams::{Failed, ReadAt, Write, fill_at, write_all};
 
 // The points of the different ESIs among these, rising.
 fn points_of(alloc: Global, fti: &Fti, arrived_esis: &[u8]) -> Result<Vec<Gf>, AllocError>
@@ -115,6 +115,17 @@ impl From<AllocError> for TwinFault {
     }
 }
 
+// A failure of the object's file is `Object`: it is told where it is read.
+impl From<Failed> for TwinFault {
+    ghost use Rattle.cert.specs.declared.twins.TwinFault.TheVariants.{Write as WriteFault};
+
+    ghost from_gives = { λ _ fault. fault ≡ WriteFault };
+
+    fn from(_: Failed) -> Self {
+        TwinFault::Write
+    }
+}
+
 // Reads the object's bytes from an offset on.
 fn read_piece<O: ReadAt>(object: &O, from: u64, bytes: &mut [u8]) -> Result<(), TwinFault>
     ensures stands { OnOk result (StandsAt (O.content object.now) from bytes.new) }
@@ -130,20 +141,6 @@ fn read_piece<O: ReadAt>(object: &O, from: u64, bytes: &mut [u8]) -> Result<(), 
         return Err(TwinFault::Object);
     }
     Ok(())
-}
-
-// Writes all of these bytes.
-fn write_piece<W: Write>(writer: &mut W, bytes: &[u8]) -> Result<(), TwinFault>
-    ensures written { OnOk result
-        (Appends (W.contents writer.old) (W.contents writer.new) bytes.now) }
-    ensures some { AppendsAny (W.contents writer.old) (W.contents writer.new) }
-    ensures fault { IfErr result (λ e. (size : ℕ) (content : Option (List ℕ)) (reliable : Bool)
-        → IsTwinFault size content reliable (W.failed writer.new) e) }
-{
-    match write_all(writer, bytes) {
-        Ok(()) => Ok(()),
-        Err(_) => Err(TwinFault::Write),
-    }
 }
 
 // Copies the object's bytes from one offset up to another, in pieces that the buffer holds.
@@ -167,7 +164,7 @@ fn copy_part<O: ReadAt, W: Write>(
         let count = (to - at).min(buffer.len() as u64) as usize;
         let piece = &mut buffer[..count];
         read_piece(object, at, piece)?;
-        write_piece(writer, piece)?;
+        write_all(writer, piece)?;
         at += count as u64;
     }
     Ok(())
@@ -194,7 +191,8 @@ fn write_block<O: ReadAt, W: Write>(
 {
     read_piece(object, begin_of(fti, block), bytes)?;
     add_values(bytes, fti, block, polynomial);
-    write_piece(writer, bytes)
+    write_all(writer, bytes)?;
+    Ok(())
 }
 
 // How many bytes are copied at a time, at least.

@@ -1,6 +1,6 @@
 use Rattle.std.proofs.Common.{arith}
 use Rattle.certificate.proofs.Results.{passed_on}
-use Rattle.cert.proofs.TwinParts.{always, fault_of_more, within}
+use Rattle.cert.proofs.TwinParts.{fault_of_more, within}
 use Rattle.cert.proofs.twins.write_block.Goals as goal
 
 pub returns-in_err-read_piece-clause-fault : goal.returns-in_err-read_piece-clause-fault
@@ -13,4 +13,4 @@ returns-in_err-read_piece-clause-fault g c =
 pub returns-clause-each : goal.returns-clause-each
 returns-clause-each g c =
     let w = within c.args.fti.now c.begin_of.ensures.valid c.args.block c.requires.block in
-    always c.write_piece.result _ (c.in_ok-read_piece.ensures.each (omega (arith, w.0, c.requires.bytes)))
+    c.in_ok-read_piece.ensures.each (omega (arith, w.0, c.requires.bytes))
