@@ -13,7 +13,7 @@ use Rattle.cert.specs.declared.verdict.Survey.{Survey}
 use Rattle.cert.specs.declared.verdict.Verdict.{Verdict}
 use Rattle.cert.specs.declared.verdict.Verdict.TheVariants.{Yes, No}
 use Rattle.reception.specs.declared.scope.Identity.{Identity}
-use Rattle.file_check.specs.Files.{IsCertificateFault, IsFilesFault, IsNoCertificate, IsFaultOfFrames, IsSurveyIn, IsSurveyOnSome, IsVerdictIn, IsVerdictOnSome, Reliable, WhereTold}
+use Rattle.file_check.specs.Files.{IsFaultUntold, IsFilesFault, IsNoCertificate, IsSurveyIn, IsSurveyOnSome, IsVerdictIn, IsVerdictOnSome, Reliable, WhereTold}
 use Rattle.cert.specs.declared.fault.CheckFault.{CheckFault}
 use Rattle.cert.specs.declared.fault.CheckFault.TheVariants as check_fault
 use Rattle.request.specs.declared.requests.CheckRequest.{CheckRequest}
@@ -79,10 +79,10 @@ module _ (w : World) (r : CheckRequest) (session object text : Option (List ℕ)
     where_told : (Fact : List ℕ → List ℕ → List ℕ → Type 0) → WhereTold session object text Fact → Fact session_held.0 object_held.0 text_held.0
     where_told Fact h = h session_held.0 object_held.0 text_held.0 session_held.2 object_held.2 text_held.2
 
-  because_frame : (e : FrameFault) → IsFaultOfFrames s (check_fault.Frame e) → (w.files ≡ None) ⊎ ((held : Files) × (w.files ≡ Some held)) → WhereTold session object text (λ x y z. IsFilesFault r.identity reliable x y z (check_fault.Frame e))
+  because_frame : (e : FrameFault) → IsFaultUntold s text t (check_fault.Frame e) → (w.files ≡ None) ⊎ ((held : Files) × (w.files ≡ Some held)) → WhereTold session object text (λ x y z. IsFilesFault r.identity reliable x y z (check_fault.Frame e))
       → Refuses w (Check r) [] (told_as.Frame e)
-  because_frame e frame (inl none) h = (λ io. gives_session.fails (frame.1 io), inl (none, frame.0.0, frame.0.1))
-  because_frame e frame (inr (held, told)) h =
+  because_frame e untold (inl none) h = (λ io. gives_session.fails (untold.1 io), inl (none, untold.0.0, untold.0.1))
+  because_frame e untold (inr (held, told)) h =
       let fact = where_told held told (λ x y z. IsFilesFault r.identity reliable x y z (check_fault.Frame e)) h in
       let x = session_held held told in
       let y = object_held held told in
@@ -108,19 +108,19 @@ module _ (w : World) (r : CheckRequest) (session object text : Option (List ℕ)
   because_object (inl none) h = inl none
   because_object (inr (held, told)) h = gives_object.fails (where_told held told (λ x y z. IsFilesFault r.identity reliable x y z check_fault.Object) h).2
 
-  because_files : (fault : CheckFault) → IsCertificateFault text t fault → IsFaultOfFrames s fault → WhereTold session object text (λ x y z. IsFilesFault r.identity reliable x y z fault) → IsBecause w w (Check r) [] (fault_of r.session r.object fault)
-  because_files (check_fault.Frame e) certificate frame h = by_refused w w (Check r) [] (told_as.Frame e) (because_frame e frame (told_or_not w.files) h)
-  because_files check_fault.Session certificate frame h = by_refused w w (Check r) [] (told_as.File r.session) (refl, because_session (told_or_not w.files) h)
-  because_files check_fault.Object certificate frame h =
+  because_files : (fault : CheckFault) → IsFaultUntold s text t fault → WhereTold session object text (λ x y z. IsFilesFault r.identity reliable x y z fault) → IsBecause w w (Check r) [] (fault_of r.session r.object fault)
+  because_files (check_fault.Frame e) untold h = by_refused w w (Check r) [] (told_as.Frame e) (because_frame e untold (told_or_not w.files) h)
+  because_files check_fault.Session untold h = by_refused w w (Check r) [] (told_as.File r.session) (refl, because_session (told_or_not w.files) h)
+  because_files check_fault.Object untold h =
       by_unread w w (Check r) [] (told_as.File r.object) (inr (Opened session, gives_session.bytes, inl (refl, because_object (told_or_not w.files) h)))
-  because_files (check_fault.Certificate e) certificate frame h =
+  because_files (check_fault.Certificate e) untold h =
       let value = an_object w.files r.object.now object gives_object.bytes in
       by_unread w w (Check r) [] (told_as.Certificate e)
-      (inr (Opened session, gives_session.bytes, inr (value.0, value.1, inl (no_certificate w r.certificate text t gives_text e certificate))))
-  because_files check_fault.NoMemory certificate frame h = tt
+      (inr (Opened session, gives_session.bytes, inr (value.0, value.1, inl (no_certificate w r.certificate text t gives_text e untold))))
+  because_files check_fault.NoMemory untold h = tt
 
-  pub unchecked : (fault : CheckFault) → IsCertificateFault text t fault → IsFaultOfFrames s fault → WhereTold session object text (λ x y z. IsFilesFault r.identity reliable x y z fault) → HasStopped w w (Check r) (fault_of r.session r.object fault)
-  unchecked fault certificate frame h = stopped w (Check r) (fault_of r.session r.object fault) (because_files fault certificate frame h)
+  pub unchecked : (fault : CheckFault) → IsFaultUntold s text t fault → WhereTold session object text (λ x y z. IsFilesFault r.identity reliable x y z fault) → HasStopped w w (Check r) (fault_of r.session r.object fault)
+  unchecked fault untold h = stopped w (Check r) (fault_of r.session r.object fault) (because_files fault untold h)
 
   of_files : (Fact : List ℕ → List ℕ → List ℕ → Type 0) → (files : Option Files) → files ≡ w.files → WhereTold session object text Fact → OfFiles files r Fact
   of_files Fact None is h = tt

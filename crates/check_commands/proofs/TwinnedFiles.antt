@@ -22,7 +22,7 @@ use Rattle.cert.specs.declared.verdict.Reason.TheVariants.{OtherCertificate, Obj
 use Rattle.cert.specs.declared.verdict.Verdict.{Verdict}
 use Rattle.cert.specs.declared.verdict.Verdict.TheVariants.{Yes, No}
 use Rattle.cert.proofs.TwinObject.{is_twin_bytes}
-use Rattle.file_check.specs.Files.{IsCertificateFault, IsFaultOfFrames, IsFilesFault, Reliable, WhereTold}
+use Rattle.file_check.specs.Files.{IsFaultUntold, IsFilesFault, Reliable, WhereTold}
 use Rattle.file_check.specs.Shortness.{IsShortFound, IsTwinnedIn}
 use Rattle.cert.specs.declared.fault.CheckFault.{CheckFault}
 use Rattle.cert.specs.declared.fault.CheckFault.TheVariants as check_fault
@@ -256,14 +256,14 @@ module _ (w : World) (r : TwinRequest) (session object text : Option (List ℕ))
       let fact = where_told held is (λ x y z. IsFilesFault r.identity reliable x y z (check_fault.Frame e)) h in
       subst (λ (f : Option Files). Holds f r.session.now (StopsAt e)) (sym is) (x.0, x.1, to x.0 _ _ fact)
 
-  frame_unread : (e : FrameFault) → IsFaultOfFrames s (check_fault.Frame e) → WhereTold session object text (λ x y z. IsFilesFault r.identity reliable x y z (check_fault.Frame e))
+  frame_unread : (e : FrameFault) → IsFaultUntold s text t (check_fault.Frame e) → WhereTold session object text (λ x y z. IsFilesFault r.identity reliable x y z (check_fault.Frame e))
       → IsUnread w (ASession r.session.now) (told_as.Frame e)
-  frame_unread frame_fault.CutLength frame h = frame_stops w.files refl frame_fault.CutLength h (λ x y z f. stops frame_fault.CutLength x y z f)
-  frame_unread frame_fault.CutDatagram frame h = frame_stops w.files refl frame_fault.CutDatagram h (λ x y z f. stops frame_fault.CutDatagram x y z f)
-  frame_unread frame_fault.TooLong frame h = frame_stops w.files refl frame_fault.TooLong h (λ x y z f. stops frame_fault.TooLong x y z f)
-  frame_unread frame_fault.Io frame h = gives_session.fails (frame.1 refl)
-  frame_unread frame_fault.NoMemory frame h = tt
-  frame_unread (frame_fault.NoSuchPlace p) frame h = absurd frame.0.1
+  frame_unread frame_fault.CutLength untold h = frame_stops w.files refl frame_fault.CutLength h (λ x y z f. stops frame_fault.CutLength x y z f)
+  frame_unread frame_fault.CutDatagram untold h = frame_stops w.files refl frame_fault.CutDatagram h (λ x y z f. stops frame_fault.CutDatagram x y z f)
+  frame_unread frame_fault.TooLong untold h = frame_stops w.files refl frame_fault.TooLong h (λ x y z f. stops frame_fault.TooLong x y z f)
+  frame_unread frame_fault.Io untold h = gives_session.fails (untold.1 refl)
+  frame_unread frame_fault.NoMemory untold h = tt
+  frame_unread (frame_fault.NoSuchPlace p) untold h = absurd untold.0.1
 
   lost_session : (w.files ≡ None) ⊎ ((held : Files) × (w.files ≡ Some held)) → WhereTold session object text (λ x y z. IsFilesFault r.identity reliable x y z check_fault.Session) → MayFail w
   lost_session (inl none) h = inl none
@@ -276,18 +276,18 @@ module _ (w : World) (r : TwinRequest) (session object text : Option (List ℕ))
   unhad : (fault : Fault) → AreUnread w r fault → HasStopped w w (Twin r) fault
   unhad fault h = stopped w (Twin r) fault (by_unread w w (Twin r) [] fault h)
 
-  pub unfound : (fault : CheckFault) → IsCertificateFault text t fault → IsFaultOfFrames s fault → WhereTold session object text (λ x y z. IsFilesFault r.identity reliable x y z fault)
+  pub unfound : (fault : CheckFault) → IsFaultUntold s text t fault → WhereTold session object text (λ x y z. IsFilesFault r.identity reliable x y z fault)
       → HasStopped w w (Twin r) (fault_of r.session r.object fault)
-  unfound (check_fault.Frame e) certificate frame h = unhad (told_as.Frame e) (inl (frame_unread e frame h))
-  unfound check_fault.Session certificate frame h = unhad (told_as.File r.session) (inl (refl, lost_session (told_or_not w.files) h))
-  unfound check_fault.Object certificate frame h =
+  unfound (check_fault.Frame e) untold h = unhad (told_as.Frame e) (inl (frame_unread e untold h))
+  unfound check_fault.Session untold h = unhad (told_as.File r.session) (inl (refl, lost_session (told_or_not w.files) h))
+  unfound check_fault.Object untold h =
       let value = a_session w.files r framed in
       unhad (told_as.File r.object) (inr (value.0, value.1, inl (refl, lost_object (told_or_not w.files) h)))
-  unfound (check_fault.Certificate e) certificate frame h =
+  unfound (check_fault.Certificate e) untold h =
       let value = a_session w.files r framed in
       let bytes = an_object w.files r.object.now object gives_object.bytes in
-      unhad (told_as.Certificate e) (inr (value.0, value.1, inr (bytes.0, bytes.1, inl (no_certificate w r.certificate text t gives_text e certificate))))
-  unfound check_fault.NoMemory certificate frame h = stopped w (Twin r) told_as.Memory tt
+      unhad (told_as.Certificate e) (inr (value.0, value.1, inr (bytes.0, bytes.1, inl (no_certificate w r.certificate text t gives_text e untold))))
+  unfound check_fault.NoMemory untold h = stopped w (Twin r) told_as.Memory tt
 
 -- ---- what is told where no block is short
 

@@ -82,20 +82,18 @@ IsSurveyOnSome who verdict survey = (datagrams : List (List ℕ)) × (f : Fti) �
     × OnYes verdict (IsReport who datagrams f)
     × OnYesWith verdict survey (IsSurvey who datagrams f)
 
--- a fault of the session's frames is one of reading
-abbrev pub IsFaultOfFrames : Bool → CheckFault → Type 0
-IsFaultOfFrames reliable (Frame fault) =
-    ((failed : Bool) × IsReadFault fault None None failed) × (fault ≡ Io → reliable ≡ false)
-IsFaultOfFrames reliable fault = ⊤
+-- why there is none: a fault of the session's frames, which is one of reading, or of the
+-- certificate's file
+abbrev pub IsFaultUntold : Bool → Option (List ℕ) → Bool → CheckFault → Type 0
+IsFaultUntold session certificate reliable (Frame fault) =
+    ((failed : Bool) × IsReadFault fault None None failed) × (fault ≡ Io → session ≡ false)
+IsFaultUntold session certificate reliable (NoCertificate fault) =
+    IsNoCertificate certificate reliable fault
+IsFaultUntold session certificate reliable fault = ⊤
 
 -- ---- why there is none
 
--- the fault of a certificate's file
-abbrev pub IsCertificateFault : Option (List ℕ) → Bool → CheckFault → Type 0
-IsCertificateFault content reliable (NoCertificate fault) = IsNoCertificate content reliable fault
-IsCertificateFault content reliable fault = ⊤
-
--- any other fault: the certificate is there then
+-- any fault but the certificate's: the certificate is there then
 abbrev pub IsFilesFault : Identity → Reliable → List ℕ → List ℕ → List ℕ → CheckFault → Type 0
 IsFilesFault who reliable session object text (NoCertificate fault) = ⊤
 IsFilesFault who reliable session object text fault = (z : Certificate) × IsTextOf text z

@@ -12,8 +12,8 @@ ghost use Rattle.cert.specs.FromReader.{IsCheckedFrom};
 ghost use Rattle.cert.specs.NotGiven.{IsFirstInBlock};
 ghost use Rattle.cert.specs.Verdict.{GivesObject, short_of};
 ghost use Rattle.file_check.specs.Checked.{IsBlocksReason, IsSomeTally, IsWholeTally};
-ghost use Rattle.file_check.specs.Files.{IsCertificateFault, IsFileFault, IsFilesFault};
-ghost use Rattle.file_check.specs.Files.{IsFaultOfFrames, IsNoCertificate, IsNoVerdict};
+ghost use Rattle.file_check.specs.Files.{IsFaultUntold, IsFileFault, IsFilesFault};
+ghost use Rattle.file_check.specs.Files.{IsNoCertificate, IsNoVerdict};
 ghost use Rattle.file_check.specs.Compared.{AreCompared, IsCompared};
 ghost use Rattle.file_check.specs.Files.{IsSurveyIn, IsSurveyOnSome, IsVerdictIn};
 ghost use Rattle.file_check.specs.Files.{IsVerdictOnSome, WhereTold};
@@ -135,9 +135,8 @@ fn compare_block<S: ReadAt, O: ReadAt, C: ReadAt>(
           object = O.reliable files.now.object.now;
           certificate = C.reliable files.now.certificate.file.now;
         }))) }
-    ensures lost { IfErr result (IsCertificateFault
+    ensures untold { IfErr result (IsFaultUntold (S.reliable files.now.session.now)
         (C.content files.now.certificate.file.now) (C.reliable files.now.certificate.file.now)) }
-    ensures frame { IfErr result (IsFaultOfFrames (S.reliable files.now.session.now)) }
     ensures file { session.new.file.now ≡ session.old.file.now }
 {
     let fti = files.certificate.fti;
@@ -202,9 +201,8 @@ fn compare_blocks<S: ReadAt, O: ReadAt, C: ReadAt>(
           object = O.reliable files.now.object.now;
           certificate = C.reliable files.now.certificate.file.now;
         }))) }
-    ensures lost { IfErr result (IsCertificateFault
+    ensures untold { IfErr result (IsFaultUntold (S.reliable files.now.session.now)
         (C.content files.now.certificate.file.now) (C.reliable files.now.certificate.file.now)) }
-    ensures frame { IfErr result (IsFaultOfFrames (S.reliable files.now.session.now)) }
 {
     let fti = files.certificate.fti;
     let mut buffers = Buffers::new(alloc);
@@ -259,9 +257,8 @@ fn tally_files<S: ReadAt, O: ReadAt, C: ReadAt>(
           object = O.reliable files.now.object.now;
           certificate = C.reliable files.now.certificate.file.now;
         }) x o (named_in text files.now.certificate.fti files.now.certificate.name))) }
-    ensures lost { IfErr result (IsCertificateFault
+    ensures untold { IfErr result (IsFaultUntold (S.reliable files.now.session.now)
         (C.content files.now.certificate.file.now) (C.reliable files.now.certificate.file.now)) }
-    ensures frame { IfErr result (IsFaultOfFrames (S.reliable files.now.session.now)) }
 {
     let fti = files.certificate.fti;
     if files.certificate.name != identity {
@@ -325,9 +322,8 @@ pub fn check_files<S: ReadAt, O: ReadAt, C: ReadAt>(
     ensures some { IfOk result (λ r. IfSome r (IsVerdictOnSome identity)) }
     ensures unnamed { IfOk result (λ r. IsNone r
         → IsUnnamed (C.content files.now.certificate.now)) }
-    ensures certificate { IfErr result (IsCertificateFault (C.content files.now.certificate.now)
-        (C.reliable files.now.certificate.now)) }
-    ensures frame { IfErr result (IsFaultOfFrames (S.reliable files.now.session.now)) }
+    ensures untold { IfErr result (IsFaultUntold (S.reliable files.now.session.now)
+        (C.content files.now.certificate.now) (C.reliable files.now.certificate.now)) }
     ensures fault { WhereTold (S.content files.now.session.now)
         (O.content files.now.object.now) (C.content files.now.certificate.now)
         (λ x o text. IfErr result (IsFilesFault identity
@@ -358,9 +354,8 @@ pub fn survey_files<S: ReadAt, O: ReadAt, C: ReadAt>(
         IsSurveyOnSome identity found.0 found.1)) }
     ensures unnamed { IfOk result (λ r. IsNone r
         → IsUnnamed (C.content files.now.certificate.now)) }
-    ensures certificate { IfErr result (IsCertificateFault (C.content files.now.certificate.now)
-        (C.reliable files.now.certificate.now)) }
-    ensures frame { IfErr result (IsFaultOfFrames (S.reliable files.now.session.now)) }
+    ensures untold { IfErr result (IsFaultUntold (S.reliable files.now.session.now)
+        (C.content files.now.certificate.now) (C.reliable files.now.certificate.now)) }
     ensures fault { WhereTold (S.content files.now.session.now)
         (O.content files.now.object.now) (C.content files.now.certificate.now)
         (λ x o text. IfErr result (IsFilesFault identity
@@ -398,9 +393,8 @@ pub fn check_for_twin<S: ReadAt, O: ReadAt, C: ReadAt>(
     ensures short { IfOk result (λ r. IfSome r (λ found. IsShortFound found.0 found.1)) }
     ensures unnamed { IfOk result (λ r. IsNone r
         → IsUnnamed (C.content files.now.certificate.now)) }
-    ensures certificate { IfErr result (IsCertificateFault (C.content files.now.certificate.now)
-        (C.reliable files.now.certificate.now)) }
-    ensures frame { IfErr result (IsFaultOfFrames (S.reliable files.now.session.now)) }
+    ensures untold { IfErr result (IsFaultUntold (S.reliable files.now.session.now)
+        (C.content files.now.certificate.now) (C.reliable files.now.certificate.now)) }
     ensures fault { WhereTold (S.content files.now.session.now)
         (O.content files.now.object.now) (C.content files.now.certificate.now)
         (λ x o text. IfErr result (IsFilesFault identity

@@ -53,9 +53,9 @@ returns-in-Err-checked-clause-fault g c =
     subst (λ (fault : Fault). HasStopped w w (Check r) fault) (sym c.check_fault.ensures)
     (elim c.if-is_some.branch [
       | then-is_some b ↦ (let is = sym b.checked-is ∙ c.in-Err-checked.is in let files = b.survey_files-checked.ensures in
-          unchecked w r _ _ _ _ _ _ c.requires.session c.requires.object c.requires.certificate e (rw is at files.certificate) (rw is at files.frame) (rw is at files.fault))
+          unchecked w r _ _ _ _ _ _ c.requires.session c.requires.object c.requires.certificate e (rw is at files.untold) (rw is at files.fault))
       | else-is_some+in-Ok-Some b ↦ of_refused (λ fault. HasStopped w w (Check r) (fault_of r.session r.object fault)) _ _ e c.in-Err-checked.is b.checked-is tt
       | else-is_some+in-Ok-None b ↦ of_refused (λ fault. HasStopped w w (Check r) (fault_of r.session r.object fault)) _ _ e c.in-Err-checked.is b.checked-is tt
       | else-is_some+in-Err b ↦ of_refused (λ fault. HasStopped w w (Check r) (fault_of r.session r.object fault)) _ _ e c.in-Err-checked.is b.checked-is
-          (unchecked w r _ _ _ _ _ _ c.requires.session c.requires.object c.requires.certificate _ (rw b.in-Err.is at b.check_files.ensures.certificate) (rw b.in-Err.is at b.check_files.ensures.frame) (rw b.in-Err.is at b.check_files.ensures.fault))
+          (unchecked w r _ _ _ _ _ _ c.requires.session c.requires.object c.requires.certificate _ (rw b.in-Err.is at b.check_files.ensures.untold) (rw b.in-Err.is at b.check_files.ensures.fault))
     ])

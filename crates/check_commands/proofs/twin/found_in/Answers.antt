@@ -15,4 +15,4 @@ returns-in-Err-clause-fault g c =
     let w = g.H.Host.world c.args.host.now in
     subst (λ (fault : Fault). HasStopped w w (Twin c.args.request.now) fault) (sym c.check_fault.ensures)
     (unfound (g.H.Host.world c.args.host.now) c.args.request.now _ _ _ _ _ _ c.requires.session c.requires.object c.requires.certificate c.requires.framed c.in-Err.fault
-    c.in-Err.ensures.certificate c.in-Err.ensures.frame c.in-Err.ensures.fault)
+    c.in-Err.ensures.untold c.in-Err.ensures.fault)

@@ -115,7 +115,7 @@ returns-in-Frame-clause-fault g c = λ x o text sx so st. (
     let are = c.in_ok-reason.ensures.compared x o text sx so st is.datagrams index long (rw c.in_default.is refl) in
     refused who x o z sound c.in_ok-index.index c.in_ok-index.end is are (equal _ (sym c.ne.ensures ∙ c.if-ne.false)) form c.in-Frame.fault (rw c.in-Frame.is at is.ends))
 
-pub returns-in-Frame-clause-frame : goal.returns-in-Frame-clause-frame
-returns-in-Frame-clause-frame g c =
+pub returns-in-Frame-clause-untold : goal.returns-in-Frame-clause-untold
+returns-in-Frame-clause-untold g c =
     let ends = rw c.in-Frame.is at c.in_ok-index.ensures.some.1.ends in
     ((ends.0.1, untold_fault c.in-Frame.fault _ ends.0.0 ends.0.1 ends.0.2), ends.1)
