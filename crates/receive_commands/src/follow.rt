@@ -178,7 +178,7 @@ fn hear<'a, H: Host>(
 fn prepare<'a, H: Host>(
     host: &mut H,
     request: &FollowRequest<'a>,
-    followed: Followed<H::Output>,
+    mut followed: Followed<H::Output>,
     datagram: &[u8],
 ) -> (Followed<H::Output>, Result<(), Fault<'a>>)
     requires { IsSoundIn followed.receiver.receiving.store }
@@ -200,20 +200,8 @@ fn prepare<'a, H: Host>(
         Ok(output) => output,
         Err(fault) => return (followed, Err(fault)),
     };
-    let Followed {
-        receiver,
-        count,
-        said,
-    } = followed;
-    let receiver = receiver.with_output(output);
-    (
-        Followed {
-            receiver,
-            count,
-            said,
-        },
-        Ok(()),
-    )
+    followed.receiver = followed.receiver.with_output(output);
+    (followed, Ok(()))
 }
 
 // Prints that the datagram at a place was refused, and why, unless printing has failed. Answers

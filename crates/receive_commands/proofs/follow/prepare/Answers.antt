@@ -13,4 +13,4 @@ returns-clause-prepared g c = λ old before after is one short.
     prepared c.args.request.now old (g.H.Host.world c.args.host.now) before after c.args.datagram.now c.args.followed is one short
     (c.if-not-wants_output.ensures.carrier refl) (c.if-not-wants_output.ensures.output refl) (g.H.Host.world c.create.new.host) c.create.ensures.files c.create.ensures.silent
     (g.H.Output.Write.contents c.in-Ok.output) c.in-Ok.ensures.blank c.in-Ok.ensures.free c.in-Ok.ensures.created
-    c.with_output-receiver.result c.with_output-receiver.ensures.receiving c.with_output-receiver.ensures.output c.with_output-receiver.ensures.stands
+    c.with_output.result c.with_output.ensures.receiving c.with_output.ensures.output c.with_output.ensures.stands
