@@ -44,6 +44,16 @@ enum Untwinned {
     NoMemory,
 }
 
+impl From<AllocError> for Untwinned {
+    ghost use Rattle.alcrs_c.specs.declared.twin.Untwinned.TheVariants.{NoMemory};
+
+    ghost from_gives = { λ _ untwinned. untwinned ≡ NoMemory };
+
+    fn from(_: AllocError) -> Self {
+        Untwinned::NoMemory
+    }
+}
+
 // A check that was fed the datagrams, or the reason that none of them changes.
 fn fed<'a>(
     alloc: Global,
@@ -88,28 +98,24 @@ fn twin_in(
     ensures none { IfErr result (IsNoTwin identity (map (λ d. d.now) datagrams.now)
         object.now certificate.entry) }
 {
-    let checker = match fed(alloc, datagrams, object, certificate, identity) {
-        Ok(Ok(checker)) => checker,
-        Ok(Err(reason)) => return Err(Untwinned::No(reason)),
-        Err(_) => return Err(Untwinned::NoMemory),
+    let checker = match fed(alloc, datagrams, object, certificate, identity)? {
+        Ok(checker) => checker,
+        Err(reason) => return Err(Untwinned::No(reason)),
     };
-    let reason = match checker.verdict(alloc) {
-        Ok(Verdict::Yes(_)) => return Err(Untwinned::NoneShort),
-        Ok(Verdict::No(reason)) => reason,
-        Err(_) => return Err(Untwinned::NoMemory),
+    let reason = match checker.verdict(alloc)? {
+        Verdict::Yes(_) => return Err(Untwinned::NoneShort),
+        Verdict::No(reason) => reason,
     };
     let Some((block, have, need)) = reason.short_block() else {
         return Err(Untwinned::No(reason));
     };
-    match checker.twin(alloc, block) {
-        Ok(bytes) => Ok(Twin {
-            block,
-            have,
-            need,
-            bytes,
-        }),
-        Err(_) => Err(Untwinned::NoMemory),
-    }
+    let bytes = checker.twin(alloc, block)?;
+    Ok(Twin {
+        block,
+        have,
+        need,
+        bytes,
+    })
 }
 
 fn twin_of(
