@@ -1,5 +1,5 @@
 -- Frames that are copied, one more.
-use Rattle.std.proofs.Common.{◌≡◌, ◌≢◌, ◌<◌, ◌+◌, ℕ, Bool, false, List, [], ◌∷◌, ◌++◌, Option, length, get_or, set, refl, sym, ap, ◌∙◌, arith, append_assoc, inl, inr, subst}
+use Rattle.std.proofs.Common.{◌≡◌, ◌≢◌, ◌<◌, ◌≤◌, ◌+◌, ℕ, Bool, false, List, [], ◌∷◌, ◌++◌, Option, length, get_or, set, refl, sym, ap, ◌∙◌, arith, append_assoc, inl, inr, subst}
 use Rattle.std.specs.Prelude.{Some, None, IfSome}
 use Rattle.std.proofs.lemmas.List.{append-nil, length-append, length-set, length_push, take_all, get_or-set_same, get_or-set_other}
 use Rattle.std.specs.Io.KnownBytes.{Appends, Consumes, IsAtEnd}
@@ -8,8 +8,8 @@ use Rattle.streams.specs.Pieces.{AppendsSome}
 use Rattle.session.specs.Frames.{frame, frames, AreShort, HasRead, IsNoFrame, IsReadFault, IsSessionFault, StopsAt}
 use Rattle.session.specs.Joined.{joined}
 use Rattle.session.specs.Turns.{taken}
-use Rattle.session.specs.Joining.{IsJoined, IsUnjoined, IsWhole}
-use Rattle.session.specs.Copying.{HasJoined, IsCopied, IsFirstFault, IsOver, IsUnread, IsUnwritten, IsWritten}
+use Rattle.session.specs.Joining.{BlamesReader, IsJoined, IsUnjoined, IsWhole}
+use Rattle.session.specs.Copying.{HasJoined, IsCopied, IsEarlier, IsOver, IsUnread, IsUnwritten, IsWritten}
 use Rattle.session.specs.declared.frame.FrameFault.{FrameFault}
 use Rattle.session.specs.declared.frame.FrameFault.TheVariants.{CutLength, CutDatagram, TooLong, Io, NoMemory, NoSuchPlace}
 use Rattle.session.proofs.Joins.{each_set, same_or_not, same_joined}
@@ -58,15 +58,6 @@ session_fault TooLong a b c failed ds p short why = stops_at TooLong a b ds p sh
 session_fault Io a b c failed ds p short why = why
 session_fault NoMemory a b c failed ds p short why = tt
 session_fault (NoSuchPlace place) a b c failed ds p short why = why
-
--- a fault of bytes is one whether a call has failed or not
-whatever_failed : (fault : FrameFault) (a : Option (List ℕ)) (failed other : Bool) → fault ≢ Io → IsSessionFault fault a failed → IsSessionFault fault a other
-whatever_failed CutLength a failed other no_io why = why
-whatever_failed CutDatagram a failed other no_io why = why
-whatever_failed TooLong a failed other no_io why = why
-whatever_failed Io a failed other no_io why = absurd (no_io refl)
-whatever_failed NoMemory a failed other no_io why = tt
-whatever_failed (NoSuchPlace place) a failed other no_io why = why
 
 -- nothing was read or written
 pub none_joined : (turns : Bool) (old : List (Option (List ℕ))) (before : Option (List ℕ)) (room : ℕ) (lists : List (List (List ℕ)))
@@ -172,72 +163,52 @@ module _ (turns : Bool) (old new : List (Option (List ℕ))) (before now : Optio
     because = inr (inr refl);
   }
 
-  pub unread : (fault : FrameFault) (p : ℕ) (sound failed : List Bool) (left after : Option (List ℕ)) (writer_failed : Bool)
-      → IsUnread fault (get_or sound p false) (get_or new p None) left (get_or failed p false) now after → p < length old
-      → (fault ≢ Io → fault ≢ NoMemory → (i : ℕ) → i < p → IsWhole (get_or old i None))
+  -- nothing more was written, and a reader has a fault
+  pub blamed : (fault : FrameFault) (sound failed : List Bool) (after : Option (List ℕ)) (writer_failed : Bool) → after ≡ now → BlamesReader fault old sound failed
       → IsUnjoined turns fault old sound failed (record { before = before; after = after; room = room; failed = writer_failed })
-  unread fault p sound failed left after writer_failed why l first = record {
+  blamed fault sound failed after writer_failed same blames = record {
     lists = lists;
     many = has.many;
     read = begun;
-    some = subst (λ (a : Option (List ℕ)). AppendsSome before a (frames (joined turns lists))) (sym why.same)
+    some = subst (λ (a : Option (List ℕ)). AppendsSome before a (frames (joined turns lists))) (sym same)
         (some_joined now (all_some before now (frames (taken turns lists)) has.written.gained));
-    because = inl (record {
-      place = p;
-      inside = l;
-      because = session_fault fault (get_or old p None) (get_or new p None) left (get_or failed p false) (get_or lists p []) (has.consumed p) (has.each p) why.because;
-      unsound = why.unsound;
-      first = first;
-    });
+    because = inl blames;
   }
 
-  -- the readers before one that gives no frame were read to their ends: the first fault is told
-  pub first_told : (other fault : FrameFault) (p : ℕ) (sound failed : List Bool) (left after : Option (List ℕ)) (reader_failed writer_failed : Bool)
-      → IsUnread other (get_or sound p false) (get_or new p None) left reader_failed now after → p < length old
-      → other ≢ Io → other ≢ NoMemory
-      → (front : List (Option (List ℕ))) → length front ≡ p → ((i : ℕ) → i < p → get_or front i None ≡ get_or new i None)
-      → (front_sound front_failed : List Bool) → ((i : ℕ) → i < p → get_or front_sound i false ≡ get_or sound i false)
-      → ((i : ℕ) → i < p → get_or front_failed i false ≡ get_or failed i false)
-      → IsFirstFault other fault front front_sound front_failed
+  pub unread : (fault : FrameFault) (p : ℕ) (sound failed : List Bool) (left after : Option (List ℕ)) (writer_failed : Bool)
+      → IsUnread fault (get_or sound p false) (get_or new p None) left (get_or failed p false) now after → p < length old
+      → (fault ≢ NoMemory → (i : ℕ) → i < p → IsWhole (get_or old i None))
       → IsUnjoined turns fault old sound failed (record { before = before; after = after; room = room; failed = writer_failed })
-  first_told other fault p sound failed left after reader_failed writer_failed why l no_io no_memory_lacks front long same front_sound front_failed same_sound same_failed (inl none) =
-      let whole : (i : ℕ) → i < p → IsWhole (get_or old i None) = λ i li.
-      whole_behind (get_or old i None) (get_or new i None) (get_or lists i []) (has.consumed i) (has.each i) (subst (λ (o : Option (List ℕ)). IsWhole o) (same i li) (none.1 i (omega (arith, li, long)))) in
-      subst (λ (e : FrameFault). IsUnjoined turns e old sound failed (record { before = before; after = after; room = room; failed = writer_failed })) (sym none.0) (record {
-        lists = lists;
-        many = has.many;
-        read = begun;
-        some = subst (λ (a : Option (List ℕ)). AppendsSome before a (frames (joined turns lists))) (sym why.same)
-            (some_joined now (all_some before now (frames (taken turns lists)) has.written.gained));
-        because = inl (record {
-          place = p;
-          inside = l;
-          because = whatever_failed other (get_or old p None) reader_failed (get_or failed p false) no_io
-              (session_fault other (get_or old p None) (get_or new p None) left reader_failed (get_or lists p []) (has.consumed p) (has.each p) why.because);
-          unsound = λ e. absurd (no_io e);
-          first = λ _ _ i li. whole i li;
-        });
-      })
-  first_told other fault p sound failed left after reader_failed writer_failed why l no_io no_memory_lacks front long same front_sound front_failed same_sound same_failed (inr earlier) =
-      let q : ℕ = earlier.0 in
-      let lq : q < p = omega (arith, earlier.1, long) in
-      record {
-        lists = lists;
-        many = has.many;
-        read = begun;
-        some = subst (λ (a : Option (List ℕ)). AppendsSome before a (frames (joined turns lists))) (sym why.same)
-            (some_joined now (all_some before now (frames (taken turns lists)) has.written.gained));
-        because = inl (record {
+  unread fault p sound failed left after writer_failed why l first = blamed fault sound failed after writer_failed why.same (record {
+    place = p;
+    inside = l;
+    because = session_fault fault (get_or old p None) (get_or new p None) left (get_or failed p false) (get_or lists p []) (has.consumed p) (has.each p) why.because;
+    unsound = why.unsound;
+    first = first;
+  })
+
+  -- the readers before this one were read on to their ends, up to one that has a fault
+  module _ (p : ℕ) (sound failed : List Bool) (l : p < length old) (front : List (Option (List ℕ))) (long : length front ≡ p) (same : (i : ℕ) → i < p → get_or front i None ≡ get_or new i None)
+      (front_sound front_failed : List Bool) (same_sound : (i : ℕ) → i < p → get_or front_sound i false ≡ get_or sound i false)
+      (same_failed : (i : ℕ) → i < p → get_or front_failed i false ≡ get_or failed i false) where
+    pub whole_before : (n : ℕ) → n ≤ p → ((i : ℕ) → i < n → IsWhole (get_or front i None)) → (i : ℕ) → i < n → IsWhole (get_or old i None)
+    whole_before n le wholes i li =
+        let lp : i < p = omega (arith, li, le) in
+        whole_behind (get_or old i None) (get_or new i None) (get_or lists i []) (has.consumed i) (has.each i) (subst (λ (o : Option (List ℕ)). IsWhole o) (same i lp) (wholes i li))
+
+    pub earlier_blamed : (fault : FrameFault) → IsEarlier fault front front_sound front_failed → BlamesReader fault old sound failed
+    earlier_blamed fault earlier =
+        let q : ℕ = earlier.0 in
+        let lq : q < p = omega (arith, earlier.1, long) in
+        record {
           place = q;
           inside = omega (arith, lq, l);
           because = fault_behind fault (get_or old q None) (get_or new q None) (get_or failed q false) (get_or lists q []) (has.consumed q) (has.each q)
               (subst (λ (o : Option (List ℕ)). IsSessionFault fault o (get_or failed q false)) (same q lq)
               (subst (λ (b : Bool). IsSessionFault fault (get_or front q None) b) (same_failed q lq) earlier.2));
           unsound = λ e. sym (same_sound q lq) ∙ earlier.3 e;
-          first = λ _ _ i li. (let lp : i < p = omega (arith, li, lq) in
-              whole_behind (get_or old i None) (get_or new i None) (get_or lists i []) (has.consumed i) (has.each i) (subst (λ (o : Option (List ℕ)). IsWhole o) (same i lp) (earlier.4 i li)));
-        });
-      }
+          first = λ _ i li. whole_before q (omega (arith, lq)) earlier.4 i li;
+        }
 
   pub unwritten : (fault : FrameFault) (p : ℕ) (sound failed : List Bool) (left after : Option (List ℕ)) (writer_failed : Bool)
       → IsUnwritten fault (get_or new p None) left now after room_now writer_failed → p < length lists → p < length new → IsNext p

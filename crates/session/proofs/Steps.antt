@@ -4,13 +4,14 @@ use Rattle.std.specs.Prelude.{None, Result, Ok, Err, IfErr, IsErrAnd}
 use Rattle.std.proofs.lemmas.List.{take-map, drop-map, map-append, get_or_append_left, get_or-append_right, get_or-drop, length-map, length_push, map-set, get_or-map, get_or-set_same, get_or-set_other, get_or_past, set-get_or, drop_more, drop-set-lt, length-set, get_or_default}
 use Rattle.std.specs.Io.KnownBytes.{IsAtEnd}
 use Rattle.session.specs.Turns.{taken, longest, one_after_other, rounds}
-use Rattle.session.specs.Joining.{IsUnjoined, IsWhole}
-use Rattle.session.specs.Copying.{HasJoined, IsFirstFault, IsToldFirst, IsAfterRounds, IsAtReader, IsCopied, IsInRound, IsOver, IsUnread, IsUnwritten, steps_left, IsWritten}
+use Rattle.streams.specs.Changes.{WriterChange}
+use Rattle.session.specs.Joining.{BlamesReader, IsUnjoined, IsWhole}
+use Rattle.session.specs.Copying.{HasJoined, IsEarlier, IsFirstFault, IsToldFirst, IsAfterRounds, IsAtReader, IsCopied, IsInRound, IsOver, IsUnread, IsUnwritten, steps_left, IsWritten}
 use Rattle.session.specs.declared.frame.FrameFault.{FrameFault}
 use Rattle.session.specs.declared.frame.FrameFault.TheVariants.{CutLength, CutDatagram, TooLong, Io, NoMemory, NoSuchPlace}
 use Rattle.session.proofs.WholeFrames.{whole_end}
 use Rattle.session.proofs.Joins.{next_turn, next_whole, same_or_not}
-use Rattle.session.proofs.Copies.{IsNext, copied, first_told, none_joined, over, unread, unwritten}
+use Rattle.session.proofs.Copies.{IsNext, blamed, copied, earlier_blamed, none_joined, over, unread, unwritten, whole_before}
 
 module _ {X : Type 0} (remaining : X → Option (List ℕ)) (sound failed : X → Bool) (turns : Bool) (old now : List X) (before mid : Option (List ℕ)) (room room_now count : ℕ)
     (lists : List (List (List ℕ))) (has : HasJoined turns (map remaining old) (map remaining now) (IsWritten before mid room room_now) count lists)
@@ -56,7 +57,7 @@ module _ {X : Type 0} (remaining : X → Option (List ℕ)) (sound failed : X �
   -- whatever became of the other readers then
   step_fault_then : (fault : FrameFault) (y : X) (after : Option (List ℕ)) (writer_failed : Bool) (all : List X) → get_or (map failed all) p false ≡ failed y
       → IsNext turns (map remaining old) (map remaining now) before mid room room_now count lists has p
-      → (fault ≢ Io → fault ≢ NoMemory → (i : ℕ) → i < p → IsWhole (get_or (map remaining old) i None))
+      → (fault ≢ NoMemory → (i : ℕ) → i < p → IsWhole (get_or (map remaining old) i None))
       → IsUnread fault (sound x) (remaining x) (remaining y) (failed y) mid after ⊎ IsUnwritten fault (remaining x) (remaining y) mid after room_now writer_failed
       → IsUnjoined turns fault (map remaining old) (map sound old) (map failed all) (record { before = before; after = after; room = room; failed = writer_failed })
   step_fault_then fault y after writer_failed all failed_there next first (inl why) =
@@ -68,33 +69,60 @@ module _ {X : Type 0} (remaining : X → Option (List ℕ)) (sound failed : X �
 
   pub step_fault : (fault : FrameFault) (y : X) (after : Option (List ℕ)) (writer_failed : Bool)
       → IsNext turns (map remaining old) (map remaining now) before mid room room_now count lists has p
-      → (fault ≢ Io → fault ≢ NoMemory → (i : ℕ) → i < p → IsWhole (get_or (map remaining old) i None))
+      → (fault ≢ NoMemory → (i : ℕ) → i < p → IsWhole (get_or (map remaining old) i None))
       → IsUnread fault (sound x) (remaining x) (remaining y) (failed y) mid after ⊎ IsUnwritten fault (remaining x) (remaining y) mid after room_now writer_failed
       → IsUnjoined turns fault (map remaining old) (map sound old) (map failed (set now p y)) (record { before = before; after = after; room = room; failed = writer_failed })
   step_fault fault y after writer_failed next first why = step_fault_then fault y after writer_failed (set now p y) (failed_here y) next first why
 
-  -- the readers before this place were read to their ends behind a fault of bytes there: the first is told
-  step_first : (other fault : FrameFault) (y : X) (after : Option (List ℕ)) (writer_failed : Bool) → other ≢ Io → other ≢ NoMemory
+  -- the readers before this place were read to their ends, up to one that has a fault, behind a fault there: the first is told
+  step_first : (other fault : FrameFault) (y : X) (after : Option (List ℕ)) (writer_failed : Bool) (front all : List X)
+      → IsNext turns (map remaining old) (map remaining now) before mid room room_now count lists has p
       → IsUnread other (sound x) (remaining x) (remaining y) (failed y) mid after ⊎ IsUnwritten other (remaining x) (remaining y) mid after room_now writer_failed
-      → (front all : List X) (ends : length front ≡ p) → ((i : ℕ) → i < p → get_or (map failed all) i false ≡ get_or (map failed front) i false)
+      → get_or (map failed all) p false ≡ failed y → ((i : ℕ) → i < p → get_or (map failed all) i false ≡ get_or (map failed front) i false)
       → IsFirstFault other fault (map remaining (take p (set now p y))) (map sound (take p (set now p y))) (map failed front)
       → IsUnjoined turns fault (map remaining old) (map sound old) (map failed all) (record { before = before; after = after; room = room; failed = writer_failed })
-  step_first other fault y after writer_failed no_io no_memory_lacks (inr why) front all ends kept first = absurd (no_io why.io)
-  step_first other fault y after writer_failed no_io no_memory_lacks (inl why) front all ends kept first =
-      let long : length (map remaining (take p (set now p y))) ≡ p = length-map (take p (set now p y)) remaining ∙ length-take-le p (set now p y) (let e = length-set now p y in omega (arith, e, l)) in
-      first_told turns (map remaining old) (map remaining now) before mid room room_now count lists has other fault p (map sound old) (map failed all) (remaining y) after (failed y) writer_failed
-      (rw (sound_here, here) why) in_old no_io no_memory_lacks (map remaining (take p (set now p y))) long
-      (λ i li. front_same remaining None i li)
-      (map sound (take p (set now p y))) (map failed front)
-      (λ i li. front_same sound false i li ∙ ap (λ (bs : List Bool). get_or bs i false) sounds)
-      (λ i li. sym (kept i li)) first
+  step_first other fault y after writer_failed front all next why last kept first = go first
     where
+      long : length (map remaining (take p (set now p y))) ≡ p
+      long = length-map (take p (set now p y)) remaining ∙ length-take-le p (set now p y) (let e = length-set now p y in omega (arith, e, l))
+
       front_same : {A : Type 0} (f : X → A) (d : A) (i : ℕ) → i < p → get_or (map f (take p (set now p y))) i d ≡ get_or (map f now) i d
       front_same {A = A} f d i li =
           ap (λ (zs : List A). get_or zs i d) (sym (take-map f p (set now p y)))
           ∙ get_or-take p (map f (set now p y)) i d li
           ∙ ap (λ (zs : List A). get_or zs i d) (map-set f now p y)
           ∙ get_or-set_other (map f now) p i (f y) d (λ e. omega (arith, e, li))
+
+      sounds_same : (i : ℕ) → i < p → get_or (map sound (take p (set now p y))) i false ≡ get_or (map sound old) i false
+      sounds_same i li = front_same sound false i li ∙ ap (λ (bs : List Bool). get_or bs i false) sounds
+
+      writer : WriterChange
+      writer = record { before = before; after = after; room = room; failed = writer_failed }
+
+      told : ((i : ℕ) → i < p → IsWhole (get_or (map remaining (take p (set now p y))) i None)) → IsUnjoined turns other (map remaining old) (map sound old) (map failed all) writer
+      told wholes = step_fault_then other y after writer_failed all last next
+          (λ _ i li. whole_before turns (map remaining old) (map remaining now) before mid room room_now count lists has p (map sound old) (map failed all) in_old
+          (map remaining (take p (set now p y))) long (λ j lj. front_same remaining None j lj) (map sound (take p (set now p y))) (map failed front) sounds_same
+          (λ j lj. sym (kept j lj)) p (omega arith) wholes i li) why
+
+      go : IsFirstFault other fault (map remaining (take p (set now p y))) (map sound (take p (set now p y))) (map failed front)
+          → IsUnjoined turns fault (map remaining old) (map sound old) (map failed all) writer
+      go (inl none) =
+          subst (λ (e : FrameFault). IsUnjoined turns e (map remaining old) (map sound old) (map failed all) writer) (sym none.0)
+          (told (λ i li. none.1 i (omega (arith, li, long))))
+      go (inr earlier) = elim why [
+        | inl none ↦
+            blamed turns (map remaining old) (map remaining now) before mid room room_now count lists has fault (map sound old) (map failed all) after writer_failed none.same (blames earlier)
+        | inr one ↦
+            (let u = unwritten turns (map remaining old) (map remaining now) before mid room room_now count lists has other p (map sound old) (map failed all) (remaining y) after writer_failed
+            (rw here one) in_lists in_now next in
+            record { lists = u.lists; many = u.many; read = u.read; some = u.some; because = inl (blames earlier) })
+      ]
+        where
+          blames : IsEarlier fault (map remaining (take p (set now p y))) (map sound (take p (set now p y))) (map failed front) → BlamesReader fault (map remaining old) (map sound old) (map failed all)
+          blames = earlier_blamed turns (map remaining old) (map remaining now) before mid room room_now count lists has p (map sound old) (map failed all) in_old
+              (map remaining (take p (set now p y))) long (λ j lj. front_same remaining None j lj) (map sound (take p (set now p y))) (map failed front) sounds_same
+              (λ j lj. sym (kept j lj)) fault
 
   module _ (y : X) (front : List X) (many : length front ≡ length (take p (set now p y))) where
     ends : length front ≡ p
@@ -127,26 +155,24 @@ module _ {X : Type 0} (remaining : X → Option (List ℕ)) (sound failed : X �
         → IsUnread other (sound x) (remaining x) (remaining y) (failed y) mid after ⊎ IsUnwritten other (remaining x) (remaining y) mid after room_now writer_failed
         → IsToldFirst other fault (map remaining (take p (set now p y))) (map sound (take p (set now p y))) (map failed front)
         → IsUnjoined turns fault (map remaining old) (map sound old) (map failed (front ++ drop p (set now p y))) (record { before = before; after = after; room = room; failed = writer_failed })
-    step_told Io fault after writer_failed next why first =
-        subst (λ (e : FrameFault). IsUnjoined turns e (map remaining old) (map sound old) (map failed all) (record { before = before; after = after; room = room; failed = writer_failed })) (sym first)
-        (step_fault_then Io y after writer_failed all failed_last next (λ no_io _. absurd (no_io refl)) why)
     step_told NoMemory fault after writer_failed next why first =
         subst (λ (e : FrameFault). IsUnjoined turns e (map remaining old) (map sound old) (map failed all) (record { before = before; after = after; room = room; failed = writer_failed })) (sym first)
-        (step_fault_then NoMemory y after writer_failed all failed_last next (λ _ no. absurd (no refl)) why)
-    step_told CutLength fault after writer_failed next why first = step_first CutLength fault y after writer_failed (λ e. cc) (λ e. cc) why front all ends failed_front first
-    step_told CutDatagram fault after writer_failed next why first = step_first CutDatagram fault y after writer_failed (λ e. cc) (λ e. cc) why front all ends failed_front first
-    step_told TooLong fault after writer_failed next why first = step_first TooLong fault y after writer_failed (λ e. cc) (λ e. cc) why front all ends failed_front first
-    step_told (NoSuchPlace n) fault after writer_failed next why first = step_first (NoSuchPlace n) fault y after writer_failed (λ e. cc) (λ e. cc) why front all ends failed_front first
+        (step_fault_then NoMemory y after writer_failed all failed_last next (λ no. absurd (no refl)) why)
+    step_told Io fault after writer_failed next why first = step_first Io fault y after writer_failed front all next why failed_last failed_front first
+    step_told CutLength fault after writer_failed next why first = step_first CutLength fault y after writer_failed front all next why failed_last failed_front first
+    step_told CutDatagram fault after writer_failed next why first = step_first CutDatagram fault y after writer_failed front all next why failed_last failed_front first
+    step_told TooLong fault after writer_failed next why first = step_first TooLong fault y after writer_failed front all next why failed_last failed_front first
+    step_told (NoSuchPlace n) fault after writer_failed next why first = step_first (NoSuchPlace n) fault y after writer_failed front all next why failed_last failed_front first
 
--- the first fault is told where the one that came is of bytes
-pub told_as : (other fault : FrameFault) (old : List (Option (List ℕ))) (sound failed : List Bool) → other ≢ Io → other ≢ NoMemory
+-- the first fault is told unless memory is wanting
+pub told_as : (other fault : FrameFault) (old : List (Option (List ℕ))) (sound failed : List Bool) → other ≢ NoMemory
     → IsFirstFault other fault old sound failed → IsToldFirst other fault old sound failed
-told_as Io fault old sound failed no_io _ first = absurd (no_io refl)
-told_as NoMemory fault old sound failed _ other_than first = absurd (other_than refl)
-told_as CutLength fault old sound failed _ _ first = first
-told_as CutDatagram fault old sound failed _ _ first = first
-told_as TooLong fault old sound failed _ _ first = first
-told_as (NoSuchPlace n) fault old sound failed _ _ first = first
+told_as NoMemory fault old sound failed other_than first = absurd (other_than refl)
+told_as Io fault old sound failed _ first = first
+told_as CutLength fault old sound failed _ first = first
+told_as CutDatagram fault old sound failed _ first = first
+told_as TooLong fault old sound failed _ first = first
+told_as (NoSuchPlace n) fault old sound failed _ first = first
 
 -- a place is before another or not
 before_or_behind : (i n : ℕ) → (i < n) ⊎ (n ≤ i)

@@ -57,21 +57,23 @@ pub record IsUnwritten (fault : FrameFault) (old new before after : Option (List
   pub fails : writer_failed ≡ true
   pub full : room < length (frame datagram)
 
--- Of readers that were read to their ends, the first fault, and where none has one this one of
--- another.
+-- of readers that were read to their ends up to one that has a fault, the fault of that
+abbrev pub IsEarlier : FrameFault → List (Option (List ℕ)) → List Bool → List Bool → Type 0
+IsEarlier fault old sound failed = (place : ℕ) × (place < length old)
+    × IsSessionFault fault (slice_index_or old place None) (slice_index_or failed place false)
+    × (fault ≡ Io → slice_index_or sound place false ≡ false)
+    × ((i : ℕ) → i < place → IsWhole (slice_index_or old i None))
+
+-- the first fault of them, and where none has one this one of another
 abbrev pub IsFirstFault : FrameFault → FrameFault → List (Option (List ℕ)) → List Bool → List Bool
     → Type 0
 IsFirstFault other fault old sound failed =
     ((fault ≡ other) × ((i : ℕ) → i < length old → IsWhole (slice_index_or old i None)))
-    ⊎ ((place : ℕ) × (place < length old)
-    × IsSessionFault fault (slice_index_or old place None) (slice_index_or failed place false)
-    × (fault ≡ Io → slice_index_or sound place false ≡ false)
-    × ((i : ℕ) → i < place → IsWhole (slice_index_or old i None)))
+    ⊎ IsEarlier fault old sound failed
 
--- the first fault where this one of another is of bytes, and else this one
+-- the first fault where this one of another isn't want of memory, and else this one
 abbrev pub IsToldFirst : FrameFault → FrameFault → List (Option (List ℕ)) → List Bool → List Bool
     → Type 0
-IsToldFirst Io fault old sound failed = fault ≡ Io
 IsToldFirst NoMemory fault old sound failed = fault ≡ NoMemory
 IsToldFirst other fault old sound failed = IsFirstFault other fault old sound failed
 

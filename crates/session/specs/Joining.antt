@@ -25,8 +25,8 @@ pub record IsJoined (turns : Bool) (old new : List (Option (List ℕ)))
 abbrev pub IsWhole : Option (List ℕ) → Type 0
 IsWhole old = IfSome old (λ x. (datagrams : List (List ℕ)) × IsFramed datagrams x)
 
--- One of the readers gives this fault, which is a failure only where it isn't sound. Where the
--- fault is one of bytes, those before it have none.
+-- One of the readers gives this fault, which is a failure only where it isn't sound. Unless memory
+-- is wanting, those before it have none.
 pub record BlamesReader (fault : FrameFault) (old : List (Option (List ℕ)))
     (sound failed : List Bool) : Type 0 where
   pub place : ℕ
@@ -34,8 +34,7 @@ pub record BlamesReader (fault : FrameFault) (old : List (Option (List ℕ)))
   pub because : IsSessionFault fault (slice_index_or old place None)
       (slice_index_or failed place false)
   pub unsound : fault ≡ Io → slice_index_or sound place false ≡ false
-  pub first : fault ≢ Io → fault ≢ NoMemory → (i : ℕ) → i < place
-      → IsWhole (slice_index_or old i None)
+  pub first : fault ≢ NoMemory → (i : ℕ) → i < place → IsWhole (slice_index_or old i None)
 
 -- Why not all was joined: a reader's fault, or the writer has failed, which has no room for what
 -- was read, or no memory. A beginning of the frames of what was read, joined, was written.

@@ -48,14 +48,13 @@ fn read_on<R: Read>(alloc: Global, reader: &mut R) -> Result<(), FrameFault>
 }
 
 // The first fault of these readers, which are read to their ends up to that one; where they have
-// none, this one of another reader. Where that isn't one of bytes, it is the answer, and nothing is
-// read.
+// none, this other one. Where that is want of memory, it is the answer, and nothing is read.
 fn first_fault<R: Read>(alloc: Global, readers: &mut [R], other: FrameFault) -> FrameFault
     ensures { IsToldFirst other result
         (map R.remaining readers.old) (map R.sound readers.old) (map R.failed readers.new) }
 {
     match other {
-        FrameFault::Io | FrameFault::NoMemory => return other,
+        FrameFault::NoMemory => return other,
         _ => {}
     }
     for place in 0..readers.len() {
@@ -146,7 +145,8 @@ fn join_in_turns<R: Read, W: Write>(
 ///
 /// `CutLength`, `CutDatagram` and `TooLong` tell why a reader's bytes aren't frames, and of several
 /// such readers the first: those before one that has a fault are read to their ends. `Io` tells
-/// that a reader or the writer has failed. A beginning of the frames was written then.
+/// that a reader or the writer has failed, and those before it, too, are read to their ends. A
+/// beginning of the frames was written then.
 pub fn join_frames<R: Read, W: Write>(
     alloc: Global,
     readers: &mut [R],

@@ -23,7 +23,7 @@ returns-in-Err g c =
     let failed : get_or (map g.R.Read.failed (set now p y)) p false ≡ g.R.Read.failed y =
     ap (λ (bs : List Bool). get_or bs p false) (map-set g.R.Read.failed now p y) ∙ get_or-set_same (map g.R.Read.failed now) p (g.R.Read.failed y) false (omega (arith, flags, l)) in
     let sound = ap (λ (bs : List Bool). get_or bs p false) (sym i.sound) ∙ get_or-map g.R.Read.sound now p x false l in
-    told_as c.args.other c.in-Err.fault (map g.R.Read.remaining old) (map g.R.Read.sound old) (map g.R.Read.failed (set now p y)) c.in_default.not-Io c.in_default.not-NoMemory
+    told_as c.args.other c.in-Err.fault (map g.R.Read.remaining old) (map g.R.Read.sound old) (map g.R.Read.failed (set now p y)) c.in_default.not-NoMemory
     (inr (
       p,
       (let t = c.loop-place-test.true in omega (arith, many, t)),

@@ -38,7 +38,7 @@ returns-in_err-copy_one-clause-fault g c =
     c.from_residual.ensures.1
     (step_fault g.R.Read.remaining g.R.Read.sound g.R.Read.failed false old now _ _ _ _ _ state.0 state.1 size sound p l x at
     c.in_err-copy_one.field-0.0 y _ _ (whole_next _ state.0 p state.2 inside)
-    (λ _ _. whole_first false _ _ _ _ _ _ _ state.0 state.1 p state.2) c.in_err-copy_one.ensures.fault)
+    (λ _. whole_first false _ _ _ _ _ _ _ state.0 state.1 p state.2) c.in_err-copy_one.ensures.fault)
 
 pub returns-in_default-clause-fault : goal.returns-in_default-clause-fault
 returns-in_default-clause-fault g c =
