@@ -74,6 +74,8 @@ PROMISES = [
         ("decoder", "decode", []),
         ("decoder", "decode_selection", []),
     ], []),
+    ("bearing", "that the object bears the losses that a yes reports, and no more",
+     [("cert", "check", ["losses"])], ["headline"]),
     ("losses", "margin, kill and burst", [("cert", "check", ["report"])], ["headline"]),
     ("receiver", "a receiver of one datagram at a time", [
         ("receiver", "new", []),
@@ -117,12 +119,12 @@ PROMISES = [
         ("cert", "check_view_from", []),
         ("certificate", "view", []),
         ("certificate", "into_view", []),
-    ], ["headline", "verdict", "losses"]),
+    ], ["headline", "bearing", "verdict", "losses"]),
     ("feeding", "`Checker`: a check of one datagram at a time", [
         ("cert", "new", []),
         ("cert", "feed", []),
         ("cert", "verdict", []),
-    ], ["headline", "verdict", "losses"]),
+    ], ["headline", "bearing", "verdict", "losses"]),
     ("picture", "`survey_from`: a check with what a picture shows", [("cert", "survey_from", [])],
      ["headline", "verdict", "losses", "reading"]),
     (

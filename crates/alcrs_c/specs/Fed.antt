@@ -3,6 +3,7 @@ use Rattle.std.specs.Prelude.{◌≡◌, ℕ, List, []}
 use Rattle.reception.specs.Headline.{DecodesWhereEnough, TwinWhereShort, TellsElse}
 use Rattle.reception.specs.declared.scope.Identity.{Identity}
 use Rattle.certificate.specs.Certificate.{Certificate, IsCertificate, certificate_text}
+use Rattle.cert.specs.Bearing.{BearsLosses}
 use Rattle.cert.specs.Feeding.{IsNoToAll}
 use Rattle.cert.specs.Report.{IsReport}
 use Rattle.cert.specs.Verdict.{IsVerdict}
@@ -27,3 +28,4 @@ pub record IsYes (who : Identity) (datagrams : List (List ℕ)) (object : List �
   pub undecided : TwinWhereShort who z.fti datagrams object
   pub tells : TellsElse who z.fti datagrams
   pub reports : IsReport who datagrams z.fti report
+  pub losses : BearsLosses who datagrams object report

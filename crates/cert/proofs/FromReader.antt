@@ -22,6 +22,7 @@ use Rattle.cert.specs.Report.{IsReport, OnYes}
 use Rattle.cert.specs.Verdict.{GivesObject, reception_to, first_reason, IsAgainst, IsVerdict, VerdictOn}
 use Rattle.cert.proofs.DatagramSteps.{reason_stays}
 use Rattle.cert.proofs.Judging.{read_all, is_at_place, no_reason, refused}
+use Rattle.cert.proofs.Bearing.{bears_losses}
 use Rattle.cert.proofs.Promise.{decodes}
 use Rattle.cert.proofs.Undecided.{undecided, tells}
 
@@ -144,12 +145,13 @@ not_begun who old z object r h = record {
   undecided = tt;
   tells = tt;
   report = tt;
+  losses = tt;
 }
 
 module _ (who : Identity) (z : Certificate) (object : List ℕ) (name : is_for who z.name ≡ true) (form : IsObject z.fti object) (gives : GivesObject object z)
     (old new : Option (List ℕ)) (ds : List (List ℕ)) (each : AreDatagrams ds) (consumed : Consumes old new (frames ds)) where
   pub no_from : (r : Reason) → IsNoAfter who r ds new object z → IsCheckedFrom who old new object z (No r)
-  no_from r h = record { datagrams = ds; each = each; consumed = consumed; judged = h; decodes = tt; undecided = tt; tells = tt; report = tt }
+  no_from r h = record { datagrams = ds; each = each; consumed = consumed; judged = h; decodes = tt; undecided = tt; tells = tt; report = tt; losses = tt }
 
   -- the last of the datagrams isn't passed
   pub not_passed : (r : Reason) → IsNotPassed who ds z r → IsCheckedFrom who old new object z (No r)
@@ -184,6 +186,9 @@ module _ (who : Identity) (z : Certificate) (object : List ℕ) (name : is_for w
       undecided = undecided who ds (readings_of ds) object z (read_all ds each) valid judged;
       tells = tells who ds (readings_of ds) object z (read_all ds each) valid judged;
       report = is;
+      losses =
+          bears_losses who z.fti ds object report (decodes who ds (readings_of ds) object z (read_all ds each) valid judged)
+          (tells who ds (readings_of ds) object z (read_all ds each) valid judged) is;
     }
 
     -- and this is the survey of a yes

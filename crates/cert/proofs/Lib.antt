@@ -25,3 +25,4 @@ pub mod Lacking
 pub mod Judged
 pub mod Members
 pub mod ShortReasons
+pub mod Bearing

@@ -6,7 +6,9 @@ use Rattle.reception.specs.declared.scope.Identity.{Identity}
 use Rattle.certificate.specs.Certificate.{Certificate, IsCertificate}
 use Rattle.cert.specs.Verdict.{IsVerdict}
 use Rattle.reception.specs.Headline.{DecodesWhereEnough, TwinWhereShort, TellsElse}
-use Rattle.cert.specs.Report.{OnYes}
+use Rattle.cert.specs.Bearing.{BearsLosses}
+use Rattle.cert.specs.Report.{IsReport, OnYes}
+use Rattle.cert.proofs.Bearing.{bears_losses}
 use Rattle.cert.proofs.Promise.{decodes}
 use Rattle.cert.proofs.Undecided.{undecided, tells}
 
@@ -30,3 +32,11 @@ pub tells_at_yes : {E : Type 0} (who : Identity) (session : List (List ℕ)) (ob
 tells_at_yes who session object z (Ok (Yes report)) good h = tells who session h.readings object z h.read good h.judged
 tells_at_yes who session object z (Ok (No reason)) good h = tt
 tells_at_yes who session object z (Err e) good h = tt
+
+-- and the object bears the losses that the report tells
+pub losses_at_yes : {E : Type 0} (who : Identity) (session : List (List ℕ)) (object : List ℕ) (z : Certificate) (r : Result Verdict E) → IsCertificate z
+    → IfOk r (IsVerdict who session object z) → IfOk r (λ v. OnYes v (IsReport who session z.fti)) → IfOk r (λ v. OnYes v (BearsLosses who session object))
+losses_at_yes who session object z (Ok (Yes report)) good h is =
+    bears_losses who z.fti session object report (decodes who session h.readings object z h.read good h.judged) (tells who session h.readings object z h.read good h.judged) is
+losses_at_yes who session object z (Ok (No reason)) good h is = tt
+losses_at_yes who session object z (Err e) good h is = tt

@@ -9,6 +9,7 @@ use Rattle.reception.specs.Symbols.{IsObject}
 use Rattle.reception.specs.Reception.{ReadAll}
 use Rattle.reception.specs.Headline.{DecodesWhereEnough, TwinWhereShort, TellsElse}
 use Rattle.certificate.specs.Certificate.{Certificate, is_for}
+use Rattle.cert.specs.Bearing.{BearsLosses}
 use Rattle.cert.specs.Report.{IsReport, OnYes}
 use Rattle.cert.specs.Verdict.{GivesObject, first_reason, IsVerdict}
 use Rattle.cert.specs.declared.verdict.Verdict.{Verdict}
@@ -51,6 +52,7 @@ pub record IsCheckedFrom (who : Identity) (old new : Option (List ℕ)) (object 
   pub undecided : OnYes verdict (λ _. TwinWhereShort who z.fti datagrams object)
   pub tells : OnYes verdict (λ _. TellsElse who z.fti datagrams)
   pub report : OnYes verdict (IsReport who datagrams z.fti)
+  pub losses : OnYes verdict (BearsLosses who datagrams object)
 
 -- The frames of some datagrams were read that have no reason at their places, nor have the
 -- certificate's name and the object, and then no datagram, for this fault.

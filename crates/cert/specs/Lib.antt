@@ -2,6 +2,7 @@ pub mod Verdict
 pub mod Columns
 pub mod Scan
 pub mod Report
+pub mod Bearing
 pub mod Surveying
 pub mod Twins
 pub mod TwinBytes

@@ -11,6 +11,7 @@ ghost use Rattle.cert.specs.NotBegun.{IsAgainstObject};
 ghost use Rattle.cert.specs.Fed.{IsFed, WasFed, IsFedShort, ended_of};
 ghost use Rattle.cert.specs.Feeding.{IsNoToAll, IsReasonSoFar, IsUnfed, IsToldAgain};
 ghost use Rattle.cert.specs.Twins.{IsShortIn, IsTwinOfSession};
+ghost use Rattle.cert.specs.Bearing.{BearsLosses};
 ghost use Rattle.cert.specs.Report.{IsReport, OnYes};
 ghost use Rattle.cert.specs.declared.verdict.Reason.{Reason as ReasonValue};
 ghost use Rattle.cert.specs.Verdict.{GivesObject, IsVerdict};
@@ -122,6 +123,9 @@ impl<'a> Checker<'a> {
         ensures report { (who : IdentityValue) (object : List ℕ) (z : CertificateValue)
             (ds : List (List ℕ)) → IsFed self.now who object z ds
             → IfOk result (λ v. OnYes v (IsReport who ds z.fti)) }
+        ensures losses { (who : IdentityValue) (object : List ℕ) (z : CertificateValue)
+            (ds : List (List ℕ)) → IsFed self.now who object z ds
+            → IfOk result (λ v. OnYes v (BearsLosses who ds object)) }
         // Where the check has ended, that is told.
         ensures ended { (r : ReasonValue) → ended_of self.now ≡ Some (Ok r)
             → IsOkAnd result (λ v. v ≡ Verdict.No r) }

@@ -2,6 +2,7 @@
 ghost use Rattle.std.specs.Prelude.{IfOk};
 ghost use Rattle.reception.specs.Headline.{DecodesWhereEnough, TwinWhereShort, TellsElse};
 ghost use Rattle.certificate.specs.Certificate.{IsCertificate};
+ghost use Rattle.cert.specs.Bearing.{BearsLosses};
 ghost use Rattle.cert.specs.Report.{IsReport, OnYes};
 ghost use Rattle.cert.specs.Verdict.{IsVerdict};
 
@@ -73,6 +74,10 @@ pub fn check(
     // the margin, the kill and the burst.
     ensures report { IfOk result (λ v.
         OnYes v (IsReport identity session.now certificate.now.fti)) }
+    // At yes, whichever datagrams are lost, up to the margin, or neighbours up to the burst, the
+    // others decode to the object, in any order and with repeats; without the kill they don't.
+    ensures losses { IfOk result (λ v.
+        OnYes v (BearsLosses identity session.now object.now)) }
 {
     verdict_of(alloc, session, object, certificate, identity)
 }

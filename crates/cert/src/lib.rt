@@ -27,8 +27,8 @@
 //! one verdict, and which reason and which column it has.
 //!
 //! Nothing is solved here: a check evaluates polynomials and compares bytes. What a yes promises of
-//! every selection is `reception`'s `specs/Headline`; the theorems behind it stand in
-//! `proofs/Promise`, `Twinning` and `Undecided`.
+//! every selection is `reception`'s `specs/Headline`, and of every loss `specs/Bearing`; the
+//! theorems behind it stand in `proofs/Promise`, `Twinning`, `Undecided` and `Bearing`.
 #![tactic(auto)]
 
 mod checker;

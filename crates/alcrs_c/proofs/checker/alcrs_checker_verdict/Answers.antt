@@ -24,5 +24,6 @@ returns-in-Ok-Yes-clause-yes c = λ who object z ds opened _.
       undecided = at_yes _ is (e.undecided who object z ds fed);
       tells = at_yes _ is (e.tells who object z ds fed);
       reports = at_yes _ is (e.report who object z ds fed);
+      losses = at_yes _ is (e.losses who object z ds fed);
     } in
     (c.in-Ok-Yes.yes, yes, c.report_numbers.ensures, c.put_blocks.ensures, c.put_kill.ensures)
