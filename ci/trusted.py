@@ -13,8 +13,9 @@ docs/THEOREMS.md opens with a table of the promises, each with how many of the d
 be read to believe it, and ends with the list. Lines are those of definitions alone, without
 comments and imports, counted at 100 columns.
 
-    ci/trusted.py               fails where the table or the list is another, or where a file has
-                                definitions of both kinds
+    ci/trusted.py               fails where the table or the list is another, where a file has
+                                definitions of both kinds, or where a document names what isn't
+                                there: a file, a definition, a law, a clause or a mutant
     ci/trusted.py --write       writes table and list
     ci/trusted.py --read WHAT   lists the definitions that a promise of the table stands on, in the
                                 order to read them
@@ -535,6 +536,71 @@ def table(modules, wanted):
     return "\n".join(text + rows + ["", sentence, ""]) + "\n"
 
 
+# ---- what documents name
+
+FILE = r"`(?:crates/)?(\w+/(?:specs|proofs|src|must-fail)(?:/[\w-]+)*(?:\.\w+)?)`"
+LIST = r"((?:`[\w:]+`(?:, | and ))*`[\w:]+`):"
+CODE = (".rt", ".antt", ".py", ".h")
+
+
+def words_in(paths):
+    return {word for path in paths for word in re.findall(r"\w+", path.read_text())}
+
+
+def source_of(place):
+    """The file or folder that a document calls `crate/specs/File`, if it is there."""
+    path = CRATES / place
+    ends = (path, path.with_suffix(".antt"), path.with_suffix(".rt"))
+    return next((end for end in ends if end.exists()), None)
+
+
+def missing_clauses(flat):
+    """The clauses that ASSURANCE lists behind calls, and none of them has."""
+    labels = {}
+    for path in CRATES.glob("*/src/*.rt"):
+        for function, label, _ in contracts(path):
+            labels.setdefault(function, set()).add(label)
+    for calls, clauses in re.findall(LIST + r" ((?:\w+, )*\w+)(?=[;.)])", flat):
+        known = set().union(*(labels.get(c, set()) for c in re.findall(r"(\w+)`", calls)))
+        yield from (f"{calls}: {clause}" for clause in clauses.split(", ") if clause not in known)
+
+
+def missing_promises(text, crates):
+    """The clauses that a section of THEOREMS tells of, and no crate has that it names."""
+    for section in re.split(r"\n+(?=(?:- )?\*\*|#)", text):
+        of = crates & set(re.findall(r"`(\w+)", section))
+        known = crates | words_in(file for c in of for file in CRATES.glob(f"{c}/src/*.rt"))
+        for names in re.findall(LIST, re.sub(r"\s+", " ", section)) if "/src" in section else []:
+            yield from (name for name in re.findall(r"`(\w+)`", names) if name not in known)
+
+
+def missing_names():
+    """What documents name that isn't there, as (document, name): files of crates, and what stands
+    in one of them; definitions, laws and functions, but in DECISIONS, which has those that are
+    gone, too; the mutants of an item that lists some; and clauses.
+    """
+    edits = {path.stem for path in [*ROOT.glob("mutants/*/*"), *CRATES.glob("*/must-fail/*")]}
+    crates = {path.name for path in CRATES.iterdir()}
+    folders = ("crates/*/src", "crates/*/specs", "crates/*/proofs", "capi", "ci", "bench")
+    code = (path for folder in folders for path in ROOT.glob(f"{folder}/**/*"))
+    known = edits | crates | words_in(path for path in code if path.suffix in CODE)
+    for path in sorted({*ROOT.glob("*.md"), *ROOT.glob("docs/*.md")} - {ROOT / "CHANGELOG.md"}):
+        text = path.read_text()
+        flat = re.sub(r"\s+", " ", text)
+        missing = [place for place in re.findall(FILE, text) if source_of(place) is None]
+        for name, place in re.findall(r"`([\w-]+)`,? (?:in|under|of|from) " + FILE, flat):
+            file = source_of(place)
+            if file and file.is_file() and name not in re.findall(r"[\w-]+", file.read_text()):
+                missing.append(f"{name} in {place}")
+        names = re.findall(r"`([A-Za-z]+(?:_|[a-z][A-Z])\w*)`", text)
+        missing += [name for name in names if name not in known and path.name != "DECISIONS.md"]
+        for item in re.findall(r"^- Mutants:((?:.|\n  )*)", text, re.M):
+            missing += [name for name in re.findall(r"`(\w+)`", item) if name not in edits | crates]
+        missing += missing_clauses(flat) if path.name == "ASSURANCE.md" else []
+        missing += missing_promises(text, crates) if path.name == "THEOREMS.md" else []
+        yield from ((path.name, name) for name in missing)
+
+
 def main():
     modules = spec_modules()
     if sys.argv[1:2] == ["--read"]:
@@ -549,11 +615,14 @@ def main():
     behind = rest[rest.index("\n## ") + 1:] if found else ""
     wanted = closure(modules)
     both = list(mixed(modules, wanted))
+    missing = list(dict.fromkeys(missing_names()))
     text = opening + table(modules, wanted) + "\n" + behind + listing(modules, wanted)
     if not found:
         sys.exit(f"docs/THEOREMS.md has no heading '{TABLE_HEADING}'")
     if sys.argv[1:] == ["--write"]:
         path.write_text(text)
+    elif missing:
+        sys.exit("not there:\n" + "\n".join(f"{document}: {name}" for document, name in missing))
     elif both:
         names = ", ".join(both)
         sys.exit(f"definitions that public contracts speak of stand beside others in: {names}")
