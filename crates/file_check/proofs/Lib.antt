@@ -5,6 +5,7 @@ pub mod Indexing
 pub mod ManyBlocks
 pub mod NamedParts
 pub mod Rereading
+pub mod Carriers
 pub mod SourceBytes
 pub mod WholeTallies
 pub mod Twins

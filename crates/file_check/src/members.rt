@@ -7,10 +7,10 @@ ghost use Rattle.partition.specs.Fti.{Fti as FtiValue, block_count, encoding_cou
 ghost use Rattle.session.specs.Extents.{datagram_in};
 ghost use Rattle.alc.specs.Computed.{read_of};
 ghost use Rattle.alc.specs.Packet.{Packet as PacketValue};
-ghost use Rattle.reception.specs.Reception.{InRange, look, symbol_of};
+ghost use Rattle.reception.specs.Reception.{InRange, is_carrier, look, symbol_of};
 ghost use Rattle.certificate.specs.BlockSymbols.{AreSymbols};
 ghost use Rattle.certificate.specs.Certificate.{Certificate as CertificateValue, IsCertificate};
-ghost use Rattle.cert.specs.Tallying.{IsPacketOf, by_certificate, tallied_of};
+ghost use Rattle.cert.specs.Tallying.{IsPacketOf, by_certificate, reading_at, tallied_of};
 ghost use Rattle.file_check.specs.Blocks.{AreSaid, IsWrong, limit_of};
 ghost use Rattle.file_check.specs.Indexed.{IsIndexOf};
 ghost use Rattle.file_check.specs.declared.blocks.Wrong.{Wrong as WrongValue};
@@ -33,13 +33,27 @@ pub(crate) struct Made<'a> {
     pub(crate) symbols: &'a [u8],
 }
 
+// Whether the datagram at a place was a carrier, when the frames were gone over.
+fn was_carrier(index: &Index, place: usize) -> bool
+    ensures { (x : List ℕ) (f : FtiValue) (ds : List (List ℕ)) → IsIndexOf x f index.now ds
+        → place < length ds
+        → result ≡ is_carrier index.now.tally.scope.identity (reading_at ds place) }
+{
+    match index.tally.carriers.binary_search(&place) {
+        Ok(_) => true,
+        Err(_) => false,
+    }
+}
+
 // The least column in which the symbol of the datagram at an extent isn't the certified one.
-// `Failed` tells that the file has failed, or that no packet of the block and the ESI stands there.
+// `Failed` tells that the file has failed, or that no packet of the block and the ESI stands there,
+// which is a carrier just where this is told.
 fn wrong_column<S: ReadAt>(
     session: &mut Lanes<'_, S>,
     scope: &Scope,
     extent: Extent,
     esi: u8,
+    carrier: bool,
     made: Made<'_>,
     datagram: &mut [u8],
 ) -> Result<Option<usize>, Failed>
@@ -57,6 +71,7 @@ fn wrong_column<S: ReadAt>(
     ensures lost { OnErr result ((x : List ℕ) → S.content session.old.file.now ≡ Some x
         → extent.offset + extent.length ≤ length x
         → IsPacketOf scope.now made.entry.block esi (read_of (datagram_in x extent))
+        → carrier ≡ is_carrier scope.now.identity (read_of (datagram_in x extent))
         → S.reliable session.old.file.now ≡ false) }
     ensures file { session.new.file.now ≡ session.old.file.now }
     ensures len { length datagram.new ≡ ROOM }
@@ -79,6 +94,9 @@ fn wrong_column<S: ReadAt>(
         return Err(Failed);
     }
     if packet.esi != esi {
+        return Err(Failed);
+    }
+    if packet.fti.is_some() != carrier {
         return Err(Failed);
     }
     let width = packet.symbol.len();
@@ -144,7 +162,8 @@ pub(crate) fn first_wrong<S: ReadAt>(
             return Err(Failed);
         };
         let scope = &index.tally.scope;
-        match wrong_column(session, scope, extent, entry.esi, made, datagram)? {
+        let carrier = was_carrier(index, entry.place);
+        match wrong_column(session, scope, extent, entry.esi, carrier, made, datagram)? {
             Some(column) => {
                 first = Some(Wrong {
                     place: entry.place,

@@ -8,9 +8,9 @@ use crate::file_tests::{Bytes, framed};
 use crate::receiver_tests::{ORDERS, disturbed, object_of, sent};
 use cert::{CheckFault, Report, Verdict, check_from};
 use certificate::{CertFault, Certificate};
-use coder::certify_to;
+use coder::{certify_to, encode};
 use file_check::{Files, check_files, survey_files};
-use partition::Fti;
+use partition::{Fti, Order};
 use rand_pcg::Pcg32;
 use reception::Identity;
 use session::{FrameFault, Pieces, Sink};
@@ -293,14 +293,19 @@ impl ReadAt for Changing<'_> {
 }
 
 // What is told where the session changes behind so many calls.
-fn told_of_changing(alloc: Global, others: Option<&[u8]>, calls: usize) -> Option<CheckFault> {
+fn told_of_changing(
+    alloc: Global,
+    held: Held<'_>,
+    others: Option<&[u8]>,
+    calls: usize,
+) -> Option<CheckFault> {
     let session = Changing {
-        bytes: &SESSION,
+        bytes: held.session,
         others: others.unwrap_or(&[]),
         fails: others.is_none(),
         calls: Cell::new(calls),
     };
-    let (object, certificate) = (Bytes(&OBJECT), Bytes(&NAMED_CERTIFICATE));
+    let (object, certificate) = (Bytes(held.object), Bytes(held.certificate));
     let files = Files {
         session: &session,
         object: &object,
@@ -316,14 +321,72 @@ fn told_of_changing(alloc: Global, others: Option<&[u8]>, calls: usize) -> Optio
 #[test]
 fn of_failing_sessions(rt: HostRuntime) -> Result<(), Fail> {
     let alloc = rt.alloc();
-    let at_once = told_of_changing(alloc, None, 0);
+    let held = small(&SESSION);
+    let at_once = told_of_changing(alloc, held, None, 0);
     assert!(rt; at_once == Some(CheckFault::Frame(FrameFault::Io)));
-    let later = told_of_changing(alloc, None, 3);
+    let later = told_of_changing(alloc, held, None, 3);
     assert!(rt; later == Some(CheckFault::Session));
-    let shorter = told_of_changing(alloc, Some(&SESSION[..20]), 3);
+    let shorter = told_of_changing(alloc, held, Some(&SESSION[..20]), 3);
     assert!(rt; shorter == Some(CheckFault::Session));
-    let other = told_of_changing(alloc, Some(&FIRST_ALONE), 3);
+    let other = told_of_changing(alloc, held, Some(&FIRST_ALONE), 3);
     assert!(rt; other == Some(CheckFault::Session));
+    Ok(())
+}
+
+// Bytes with this one at a place.
+fn with_byte(alloc: Global, bytes: &[u8], place: usize, byte: u8) -> Result<Vec<u8>, Fail> {
+    let mut other = bytes.to_vec(alloc)?;
+    if let Some(there) = other.as_mut_slice().get_mut(place) {
+        *there = byte;
+    }
+    Ok(other)
+}
+
+// A session of two blocks in which one byte is another once its frames were gone over: its datagram
+// isn't what it was, whatever its symbol is.
+#[test]
+fn of_changed_sessions(rt: HostRuntime) -> Result<(), Fail> {
+    let alloc = rt.alloc();
+    let fti = Fti::new(4, 1, 2, 3)?;
+    let mut sink = Sink::new(alloc);
+    encode(
+        alloc,
+        &[1, 2, 3, 4],
+        1,
+        1,
+        &fti,
+        1,
+        Order::Blocks,
+        &mut sink,
+    )?;
+    let certificate = certificate_of(alloc, &[1, 2, 3, 4], &fti)?;
+    for (place, before, after) in [
+        // No packet; and the packet of another identity.
+        (2, 0x10, 0xFF),
+        (13, 1, 9),
+        // Another block, another ESI, and one that no block has.
+        (32, 0, 1),
+        (33, 0, 1),
+        (33, 0, 200),
+        // Another FTI; none any more, in an extension that says nothing; and one where none was.
+        (25, 4, 3),
+        (18, 0x40, 0),
+        (53, 0, 0x40),
+        // A shorter header, and so a longer symbol.
+        (4, 7, 4),
+    ] {
+        let first = with_byte(alloc, sink.bytes(), place, before)?;
+        let second = with_byte(alloc, sink.bytes(), place, after)?;
+        let held = Held {
+            session: first.as_slice(),
+            object: &[1, 2, 3, 4],
+            certificate: certificate.as_slice(),
+        };
+        let same = told_of_changing(alloc, held, Some(first.as_slice()), 4);
+        assert!(rt; same.is_none(), "byte {place}: {same:?}");
+        let told = told_of_changing(alloc, held, Some(second.as_slice()), 4);
+        assert!(rt; told == Some(CheckFault::Session), "byte {place}: {told:?}");
+    }
     Ok(())
 }
 

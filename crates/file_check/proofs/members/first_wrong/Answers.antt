@@ -1,5 +1,6 @@
-use Rattle.std.proofs.Common.{◌≡◌, ◌∙◌, length, take, get_or, refl, sym, subst, arith}
+use Rattle.std.proofs.Common.{◌≡◌, ◌∙◌, length, take, get_or, refl, sym, ap, subst, arith}
 use Rattle.losses.specs.Groups.{members_among}
+use Rattle.reception.specs.Reception.{is_carrier}
 use Rattle.cert.specs.Tallying.{IsPacketOf, tallied_of}
 use Rattle.certificate.proofs.Flat.{on_err}
 use Rattle.file_check.specs.Blocks.{member_at}
@@ -73,7 +74,9 @@ returns-in_err-column-clause-lost g c =
     on_err c.from_residual.result (λ x f ds told of.
     lost x told (extent_inside content index b symbols known.0 known.1 known.2 k l e is x f ds of)
     (subst (IsPacketOf index.tally.scope b (member_at (tallied_of index.tally) b k).esi) (sym (extent_read content index b symbols known.0 known.1 known.2 k l e is x f ds of))
-    (member_there content index b symbols known.0 known.1 known.2 x f ds of k l).1))
+    (member_there content index b symbols known.0 known.1 known.2 x f ds of k l).1)
+    (rw place at (c.was_carrier-carrier.ensures x f ds of) (member_there content index b symbols known.0 known.1 known.2 x f ds of k l).0
+    ∙ ap (is_carrier index.tally.scope.identity) (sym (extent_read content index b symbols known.0 known.1 known.2 k l e is x f ds of))))
 
 pub loop-entry-preserved : goal.loop-entry-preserved
 loop-entry-preserved g c =

@@ -1,17 +1,19 @@
-use Rattle.std.proofs.Common.{rules, ◌≡◌, ◌∙◌, ◌+◌, ◌*◌, ◌<◌, ℕ, List, Ok, Err, length, take, drop, sym, ap, arith, length-take-le, length-drop}
+use Rattle.std.proofs.Common.{rules, Bool, true, false, not, ◌≡◌, ◌∙◌, ◌+◌, ◌*◌, ◌<◌, ℕ, List, Ok, Err, length, take, drop, sym, ap, arith, length-take-le, length-drop}
 use Rattle.std.specs.Prelude.{◌-◌}
+use Rattle.std.proofs.Math.Bool.{beq}
 use Rattle.alc.specs.Packet.{Packet}
 use Rattle.alc.specs.Views.{packet_of}
 use Rattle.partition.specs.Fti.{Fti, encoding_count}
-use Rattle.reception.specs.Reception.{InRange, NoPacket, Other, OtherFti, Range, SymbolLength, look}
+use Rattle.reception.specs.Reception.{InRange, NoPacket, Other, OtherFti, Range, SymbolLength, is_carrier, look}
 use Rattle.reception.specs.Step.{looked}
 use Rattle.alc.specs.Computed.{read_of}
 use Rattle.certified_symbols.specs.CertifiedSymbol.{IsCertifiedSymbol}
+use Rattle.file_check.proofs.Carriers.{carrier_read}
 use Rattle.file_check.proofs.Rereading.{whole, seen, is_known, row_is, row_inside, said_by_row}
 use Rattle.file_check.proofs.members.wrong_column.Goals as goal
 
 pub returns-in-Ok-Other-clause-lost : goal.returns-in-Ok-Other-clause-lost
-returns-in-Ok-Other-clause-lost g c = λ x told inside packet. (
+returns-in-Ok-Other-clause-lost g c = λ x told inside packet was. (
     let f = c.requires.known.0 in
     let few : c.args.extent.length < 65536 = search rules in
     let size : length c.fill.new.buf ≡ c.args.extent.length = c.fill.auto.buf ∙ length-take-le c.from.result c.args.datagram.now (omega (arith, few, c.from.ensures, c.requires.room)) ∙ c.from.ensures in
@@ -22,7 +24,7 @@ returns-in-Ok-Other-clause-lost g c = λ x told inside packet. (
     absurd (cc))
 
 pub returns-in-Ok-OtherFti-clause-lost : goal.returns-in-Ok-OtherFti-clause-lost
-returns-in-Ok-OtherFti-clause-lost g c = λ x told inside packet. (
+returns-in-Ok-OtherFti-clause-lost g c = λ x told inside packet was. (
     let f = c.requires.known.0 in
     let few : c.args.extent.length < 65536 = search rules in
     let size : length c.fill.new.buf ≡ c.args.extent.length = c.fill.auto.buf ∙ length-take-le c.from.result c.args.datagram.now (omega (arith, few, c.from.ensures, c.requires.room)) ∙ c.from.ensures in
@@ -33,7 +35,7 @@ returns-in-Ok-OtherFti-clause-lost g c = λ x told inside packet. (
     absurd (cc))
 
 pub returns-in-Ok-SymbolLength-clause-lost : goal.returns-in-Ok-SymbolLength-clause-lost
-returns-in-Ok-SymbolLength-clause-lost g c = λ x told inside packet. (
+returns-in-Ok-SymbolLength-clause-lost g c = λ x told inside packet was. (
     let f = c.requires.known.0 in
     let few : c.args.extent.length < 65536 = search rules in
     let size : length c.fill.new.buf ≡ c.args.extent.length = c.fill.auto.buf ∙ length-take-le c.from.result c.args.datagram.now (omega (arith, few, c.from.ensures, c.requires.room)) ∙ c.from.ensures in
@@ -44,7 +46,7 @@ returns-in-Ok-SymbolLength-clause-lost g c = λ x told inside packet. (
     absurd (cc))
 
 pub returns-in-Ok-Range-clause-lost : goal.returns-in-Ok-Range-clause-lost
-returns-in-Ok-Range-clause-lost g c = λ x told inside packet. (
+returns-in-Ok-Range-clause-lost g c = λ x told inside packet was. (
     let f = c.requires.known.0 in
     let few : c.args.extent.length < 65536 = search rules in
     let size : length c.fill.new.buf ≡ c.args.extent.length = c.fill.auto.buf ∙ length-take-le c.from.result c.args.datagram.now (omega (arith, few, c.from.ensures, c.requires.room)) ∙ c.from.ensures in
@@ -55,7 +57,7 @@ returns-in-Ok-Range-clause-lost g c = λ x told inside packet. (
     absurd (cc))
 
 pub returns-in-Err-clause-lost : goal.returns-in-Err-clause-lost
-returns-in-Err-clause-lost g c = λ x told inside packet. (
+returns-in-Err-clause-lost g c = λ x told inside packet was. (
     let f = c.requires.known.0 in
     let few : c.args.extent.length < 65536 = search rules in
     let size : length c.fill.new.buf ≡ c.args.extent.length = c.fill.auto.buf ∙ length-take-le c.from.result c.args.datagram.now (omega (arith, few, c.from.ensures, c.requires.room)) ∙ c.from.ensures in
@@ -66,7 +68,7 @@ returns-in-Err-clause-lost g c = λ x told inside packet. (
     absurd (cc))
 
 pub returns-then-packet-made-clause-lost : goal.returns-then-packet-made-clause-lost
-returns-then-packet-made-clause-lost g c = λ x told inside packet. (
+returns-then-packet-made-clause-lost g c = λ x told inside packet was. (
     let f = c.requires.known.0 in
     let few : c.args.extent.length < 65536 = search rules in
     let size : length c.fill.new.buf ≡ c.args.extent.length = c.fill.auto.buf ∙ length-take-le c.from.result c.args.datagram.now (omega (arith, few, c.from.ensures, c.requires.room)) ∙ c.from.ensures in
@@ -78,7 +80,7 @@ returns-then-packet-made-clause-lost g c = λ x told inside packet. (
     absurd (c.if-packet-made.true (ap (λ (p : Packet). p.block) same ∙ packet.block)))
 
 pub returns-then-packet-esi-clause-lost : goal.returns-then-packet-esi-clause-lost
-returns-then-packet-esi-clause-lost g c = λ x told inside packet. (
+returns-then-packet-esi-clause-lost g c = λ x told inside packet was. (
     let f = c.requires.known.0 in
     let few : c.args.extent.length < 65536 = search rules in
     let size : length c.fill.new.buf ≡ c.args.extent.length = c.fill.auto.buf ∙ length-take-le c.from.result c.args.datagram.now (omega (arith, few, c.from.ensures, c.requires.room)) ∙ c.from.ensures in
@@ -88,6 +90,21 @@ returns-then-packet-esi-clause-lost g c = λ x told inside packet. (
     let there : look c.args.scope.now (read_of c.fill.new.buf) ≡ Ok (InRange packet.packet) = ap (λ (l : List ℕ). look c.args.scope.now (read_of l)) d ∙ packet.look in
     let same : packet_of c.in-Ok-InRange.packet ≡ packet.packet = cc in
     absurd (c.if-packet-esi.true (ap (λ (p : Packet). p.esi) same ∙ packet.esi)))
+
+differ : (a b : Bool) → ◌≡◌ {A = Bool} a b → not (beq a b) ≡ true → ⊥
+differ true true e h = absurd (cc)
+differ false false e h = absurd (cc)
+differ true false e h = absurd (cc)
+differ false true e h = absurd (cc)
+
+pub returns-then-is_some-carrier-clause-lost : goal.returns-then-is_some-carrier-clause-lost
+returns-then-is_some-carrier-clause-lost g c = λ x told inside packet was. (
+    let few : c.args.extent.length < 65536 = search rules in
+    let size : length c.fill.new.buf ≡ c.args.extent.length = c.fill.auto.buf ∙ length-take-le c.from.result c.args.datagram.now (omega (arith, few, c.from.ensures, c.requires.room)) ∙ c.from.ensures in
+    let d = whole x c.args.extent c.in_ok-fill.field-0 c.fill.new.buf size (omega (arith, c.if-branch-bytes.false)) (rw told at c.in_ok-fill.ensures.bytes) in
+    let mine = carrier_read c.args.scope.now c.fill.new.buf c.look.new.self c.in-Ok-InRange.packet (rw (c.in-Ok-InRange.is, c.in-Ok-InRange.field-0-is) at c.look.ensures) in
+    let same : c.is_some.result ≡ c.args.carrier = c.is_some.ensures ∙ sym mine ∙ ap (λ (l : List ℕ). is_carrier c.args.scope.now.identity (read_of l)) d ∙ sym was in
+    absurd (differ c.is_some.result c.args.carrier same c.if-is_some-carrier.true))
 
 pub overflow_mul-from : goal.overflow_mul-from
 overflow_mul-from g c =
