@@ -29,7 +29,7 @@ use Rattle.block_recovery.specs.Received.{IsIndex, AreReceived, list_of}
 use Rattle.block_recovery.specs.Decoded.{AreInRange}
 use Rattle.file_decoder.specs.InFile.{AreOfBlock, AreSymbolsIn, IsSymbolIn}
 use Rattle.block_recovery.specs.declared.arrivals.Arrival.{Arrival}
-use Rattle.session.specs.declared.extent.Extent.{Extent}
+use Rattle.file_decoder.specs.declared.rereading.Place.{Place}
 use Rattle.block_recovery.specs.declared.symbols.Symbols.{Symbols}
 use Rattle.block_recovery.proofs.Receiving.{Scanned, starts, clashed, receives, known_at_last, passes, all_received}
 use Rattle.file_decoder.proofs.ReadAgain.{same_scope}
@@ -89,14 +89,14 @@ one_all P x h zero d l = h
 one_all P x h (suc k) d l = absurd (omega (arith, l))
 
 -- one place more
-pub more_placed : (x : List ℕ) (scope : Scope) (old new : Symbols Extent) (block : ℕ) (a : Arrival Extent) → AreSymbolsIn x scope old → IsSymbolIn x scope block a.esi a.symbol
+pub more_placed : (x : List ℕ) (scope : Scope) (old new : Symbols Place) (block : ℕ) (a : Arrival Place) → AreSymbolsIn x scope old → IsSymbolIn x scope block a.esi a.symbol
     → list_of new block ≡ list_of old block ++ a ∷ [] → ((b : ℕ) → (block == b) ≡ false → list_of new b ≡ list_of old b) → AreSymbolsIn x scope new
 more_placed x scope old new block a placed here more others b = elim (cases_eq block b) [
   | inl same ↦
       subst (λ (n : ℕ). AreOfBlock x scope n (list_of new n)) same
       (subst (AreOfBlock x scope block) (sym more)
-      (All-append (λ (s : Arrival Extent). IsSymbolIn x scope block s.esi s.symbol) (list_of old block) (a ∷ []) (placed block)
-      (one_all (λ (s : Arrival Extent). IsSymbolIn x scope block s.esi s.symbol) a here)))
+      (All-append (λ (s : Arrival Place). IsSymbolIn x scope block s.esi s.symbol) (list_of old block) (a ∷ []) (placed block)
+      (one_all (λ (s : Arrival Place). IsSymbolIn x scope block s.esi s.symbol) a here)))
   | inr ne ↦ subst (AreOfBlock x scope b) (sym (others b (ne_eqb block b ne))) (placed b)
 ]
 
@@ -110,37 +110,37 @@ none_in_range f at none = record {
 }
 
 -- the place that was found at an ESI is listed, and a packet of that ESI stands there
-pub listed_placed : (x : List ℕ) (scope : Scope) (s : Symbols Extent) → AreSymbolsIn x scope s → (b j : ℕ) (p : Extent) → Contains (list_of s b) (record { esi = j; symbol = p }) → IsSymbolIn x scope b j p
+pub listed_placed : (x : List ℕ) (scope : Scope) (s : Symbols Place) → AreSymbolsIn x scope s → (b j : ℕ) (p : Place) → Contains (list_of s b) (record { esi = j; symbol = p }) → IsSymbolIn x scope b j p
 listed_placed x scope s placed b j p listed =
-    subst (λ (a : Arrival Extent). IsSymbolIn x scope b a.esi a.symbol) listed.2 (placed b listed.0 (record { esi = j; symbol = p }) listed.1)
+    subst (λ (a : Arrival Place). IsSymbolIn x scope b a.esi a.symbol) listed.2 (placed b listed.0 (record { esi = j; symbol = p }) listed.1)
 
-abbrev arrival : ℕ → Extent → Arrival Extent
+abbrev arrival : ℕ → Place → Arrival Place
 arrival j p = record { esi = j; symbol = p }
 
 -- a place that is looked at for an ESI
-module _ (xs came : List (Arrival Extent)) (same : xs ≡ came) (i : ℕ) (d : Arrival Extent) (li : i < length xs) (esi : ℕ) where
+module _ (xs came : List (Arrival Place)) (same : xs ≡ came) (i : ℕ) (d : Arrival Place) (li : i < length xs) (esi : ℕ) where
   inside : i < length came
-  inside = subst (λ (l : List (Arrival Extent)). i < length l) same li
+  inside = subst (λ (l : List (Arrival Place)). i < length l) same li
 
   here : get_or xs i d ≡ get_or came i (get_or xs i d)
-  here = ap (λ (l : List (Arrival Extent)). get_or l i d) same ∙ get_or_default came i d (get_or xs i d) inside
+  here = ap (λ (l : List (Arrival Place)). get_or l i d) same ∙ get_or_default came i d (get_or xs i d) inside
 
-  one_more : (held : Extent → List ℕ) → arrived_at held (take (i + 1) came) ≡ with_esi (arrived_at held (take i came)) (get_or xs i d).esi (held (get_or xs i d).symbol)
+  one_more : (held : Place → List ℕ) → arrived_at held (take (i + 1) came) ≡ with_esi (arrived_at held (take i came)) (get_or xs i d).esi (held (get_or xs i d).symbol)
   one_more held =
-      ap (arrived_at held) (take_more came i (get_or xs i d) inside) ∙ ap (λ (a : Arrival Extent). arrived_at held (take i came ++ a ∷ [])) (sym here)
+      ap (arrived_at held) (take_more came i (get_or xs i d) inside) ∙ ap (λ (a : Arrival Place). arrived_at held (take i came ++ a ∷ [])) (sym here)
       ∙ arrived_more held (take i came) (get_or xs i d)
 
-  pub found_here : (get_or xs i d).esi ≡ esi → (held : Extent → List ℕ) → option_map held (Some (get_or xs i d).symbol) ≡ arrived_at held (take (i + 1) came) esi
+  pub found_here : (get_or xs i d).esi ≡ esi → (held : Place → List ℕ) → option_map held (Some (get_or xs i d).symbol) ≡ arrived_at held (take (i + 1) came) esi
   found_here e held =
       sym (ap (λ (g : ℕ → Option (List ℕ)). g esi) (one_more held) ∙ with_here (arrived_at held (take i came)) (get_or xs i d).esi esi (held (get_or xs i d).symbol) e)
 
   pub listed_here : (get_or xs i d).esi ≡ esi → Contains came (record { esi = esi; symbol = (get_or xs i d).symbol })
   listed_here e =
-      let a : Arrival Extent = record { esi = esi; symbol = (get_or xs i d).symbol } in
+      let a : Arrival Place = record { esi = esi; symbol = (get_or xs i d).symbol } in
       let is : get_or xs i d ≡ record { esi = esi; symbol = (get_or xs i d).symbol } = ap (λ (j : ℕ). arrival j (get_or xs i d).symbol) e in
-      (i, inside, sym (ap (λ (l : List (Arrival Extent)). get_or l i d) same ∙ get_or_default came i d a inside) ∙ is)
+      (i, inside, sym (ap (λ (l : List (Arrival Place)). get_or l i d) same ∙ get_or_default came i d a inside) ∙ is)
 
-  pub found_before : ((get_or xs i d).esi ≡ esi → ⊥) → (held : Extent → List ℕ) (found : Option Extent) → option_map held found ≡ arrived_at held (take i came) esi
+  pub found_before : ((get_or xs i d).esi ≡ esi → ⊥) → (held : Place → List ℕ) (found : Option Place) → option_map held found ≡ arrived_at held (take i came) esi
       → option_map held found ≡ arrived_at held (take (i + 1) came) esi
   found_before ne held found before =
       before ∙ sym (ap (λ (g : ℕ → Option (List ℕ)). g esi) (one_more held) ∙ with_other (arrived_at held (take i came)) (get_or xs i d).esi esi (held (get_or xs i d).symbol) ne)

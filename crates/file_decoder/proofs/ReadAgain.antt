@@ -22,9 +22,9 @@ use Rattle.reception.proofs.Stepping.{scope}
 use Rattle.reception.proofs.Walking.{is_packet}
 use Rattle.block_recovery.specs.Arrivals.{with_esi, arrived_at}
 use Rattle.block_recovery.specs.Blocks.{HaveLength}
-use Rattle.file_decoder.specs.InFile.{symbol_in, bytes_in, held_in, IsSymbolOf, IsSymbolIn}
+use Rattle.file_decoder.specs.InFile.{symbol_in, bytes_in, extent_of, held_in, IsSymbolOf, IsSymbolIn}
 use Rattle.session.specs.Extents.{datagram_in}
-use Rattle.session.specs.declared.extent.Extent.{Extent}
+use Rattle.file_decoder.specs.declared.rereading.Place.{Place}
 use Rattle.decoder.specs.Sources.{IsUnreadOf}
 use Rattle.block_recovery.specs.declared.arrivals.Arrival.{Arrival}
 use Rattle.decoder.specs.declared.source.Unread.{Unread}
@@ -66,15 +66,20 @@ hands_over (Ok look_at.Range) q h = absurd (cc)
 hands_over (Ok (look_at.InRange p)) q h = (p, refl, cc)
 
 -- a packet in range is looked at as one, and is the same
-pub found_again : (d : List ℕ) (old new : Scope) (answer : Result Look PacketFault) → IsLook d old new answer → (f : Fti) → old.fti ≡ Some f → (b j : ℕ) → IsSymbolOf old b j d
-    → (p : ReadPacket) × (answer ≡ Ok (look_at.InRange p)) × (p.sbn ≡ b) × (p.esi ≡ j)
-found_again d old new answer h f e b j is =
-    let w = hands_over answer is.packet (looks d old new answer h f e ∙ is.look) in
-    (w.0, w.1, ap (λ (q : Packet). q.block) w.2 ∙ is.block, ap (λ (q : Packet). q.esi) w.2 ∙ is.esi)
+pub found_again : (d : List ℕ) (old new : Scope) (answer : Result Look PacketFault) → IsLook d old new answer → (f : Fti) → old.fti ≡ Some f → (b j : ℕ) (carrier : Bool) → IsSymbolOf old b j carrier d
+    → (p : ReadPacket) × (answer ≡ Ok (look_at.InRange p)) × (p.sbn ≡ b) × (p.esi ≡ j) × (is_some p.fti ≡ carrier)
+found_again d old new answer h f e b j carrier is =
+    let w = hands_over answer is.packet (looks d old new answer h f e ∙ is.look) in (
+      w.0,
+      w.1,
+      ap (λ (q : Packet). q.block) w.2 ∙ is.block,
+      ap (λ (q : Packet). q.esi) w.2 ∙ is.esi,
+      ap (λ (q : Packet). is_some q.fti) w.2 ∙ is.carries,
+    )
 
 -- a packet that is handed over is one of its block and ESI
-pub symbol_here : (d : List ℕ) (old new : Scope) (p : ReadPacket) → IsLook d old new (Ok (look_at.InRange p)) → (f : Fti) → old.fti ≡ Some f → IsSymbolOf old p.sbn p.esi d
-symbol_here d old new p h f e = record { packet = packet_of p; look = sym (looks d old new (Ok (look_at.InRange p)) h f e); block = refl; esi = refl }
+pub symbol_here : (d : List ℕ) (old new : Scope) (p : ReadPacket) → IsLook d old new (Ok (look_at.InRange p)) → (f : Fti) → old.fti ≡ Some f → IsSymbolOf old p.sbn p.esi (is_some p.fti) d
+symbol_here d old new p h f e = record { packet = packet_of p; look = sym (looks d old new (Ok (look_at.InRange p)) h f e); block = refl; esi = refl; carries = refl }
 
 -- ---- symbols that are listed again, one by one
 
@@ -123,9 +128,14 @@ unread_of A B reliable unread.NoMemory f h = tt
 
 -- a packet that is handed over stands where its datagram does
 pub symbol_moves : (d : List ℕ) (scope new : Scope) (p : ReadPacket) → IsLook d scope new (Ok (look_at.InRange p)) → (f : Fti) → scope.fti ≡ Some f
-    → (x : List ℕ) (extent : Extent) → datagram_in x extent ≡ d → extent.offset + extent.length ≤ length x
-    → (p.symbol.now ≡ held_in x extent) × IsSymbolIn x scope p.sbn p.esi extent
-symbol_moves d scope new p look f e x extent is inside = (
+    → (x : List ℕ) (place : Place) → datagram_in x (extent_of place) ≡ d → place.offset + place.length ≤ length x → place.carrier ≡ is_some p.fti
+    → (p.symbol.now ≡ held_in x place) × IsSymbolIn x scope p.sbn p.esi place
+symbol_moves d scope new p look f e x place is inside carries = (
   symbol_is d scope new p look ∙ ap symbol_in (sym is),
-  record { inside = inside; symbol = subst (λ (y : List ℕ). IsSymbolOf scope p.sbn p.esi y) (sym is) (symbol_here d scope new p look f e) },
+  record {
+    inside = inside;
+    symbol =
+        subst (λ (v : Bool). IsSymbolOf scope p.sbn p.esi v (datagram_in x (extent_of place))) (sym carries)
+        (subst (λ (y : List ℕ). IsSymbolOf scope p.sbn p.esi (is_some p.fti) y) (sym is) (symbol_here d scope new p look f e));
+  },
 )

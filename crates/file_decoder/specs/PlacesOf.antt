@@ -15,7 +15,7 @@ use Rattle.block_recovery.specs.Received.{AreReceived, came_at}
 use Rattle.block_recovery.specs.Decoded.{AreInRange}
 use Rattle.file_decoder.specs.declared.file_source.Indexed.{Indexed}
 use Rattle.file_decoder.specs.declared.indexed_file.FileSymbols.{FileSymbols}
-use Rattle.session.specs.declared.extent.Extent.{Extent}
+use Rattle.file_decoder.specs.declared.rereading.Place.{Place}
 
 -- what came of these datagrams of the file stands at its places
 pub record AreIndexedOf (who : Identity) (datagrams : List (List ℕ)) (x : List ℕ)
@@ -27,8 +27,8 @@ pub record AreIndexedOf (who : Identity) (datagrams : List (List ℕ)) (x : List
 -- whatever the file's bytes are, each block has a code, and as many places as it needs
 pub record AreEnoughPlaces (s : FileSymbols) : Type 0 where
   pub codes : EachBlockHas (IsCodeOf s.indexed.fti) s.indexed.fti s.codes
-  pub range : (held : Extent → List ℕ) → AreInRange s.indexed.fti (came_at held s.indexed.symbols)
-  pub enough : (held : Extent → List ℕ) (b : ℕ) → b < block_count s.indexed.fti
+  pub range : (held : Place → List ℕ) → AreInRange s.indexed.fti (came_at held s.indexed.symbols)
+  pub enough : (held : Place → List ℕ) (b : ℕ) → b < block_count s.indexed.fti
       → IsEnoughAt s.indexed.fti b (came_at held s.indexed.symbols b)
 
 -- at the places stand the symbols that these datagrams of the file have, enough of each block,

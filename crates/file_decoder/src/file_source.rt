@@ -4,13 +4,12 @@ ghost use Rattle.reception.specs.Reception.{with_fti};
 ghost use Rattle.file_decoder.specs.InFile.{file_at, AllStandIn};
 ghost use Rattle.block_recovery.specs.Recoveries.{IsKeptOf};
 
-use crate::rereading::{DatagramReader, read_block_again};
+use crate::rereading::{DatagramReader, Place, read_block_again};
 use block_code::BlockCodes;
 use block_recovery::{Recovery, Rows, Symbols, block_rows, blocks_of, symbols_below};
 use decoder::{Source, Unread, have};
 use partition::Fti;
 use reception::{Identity, Scope};
-use session::Extent;
 use std::alloc::{AllocError, Global};
 use streams::ReadAt;
 
@@ -19,7 +18,7 @@ use streams::ReadAt;
 pub(crate) struct Indexed {
     pub(crate) identity: Identity,
     pub(crate) fti: Fti,
-    pub(crate) symbols: Symbols<Extent>,
+    pub(crate) symbols: Symbols<Place>,
 }
 
 /// What symbols are read with, and what is kept of a solution.

@@ -12,7 +12,7 @@ ghost use Rattle.file_decoder.specs.PlacesOf.{AreIndexedOf};
 ghost use Rattle.decoder.specs.Gathering.{IsNoObject, IsWrittenOf};
 ghost use Rattle.block_recovery.specs.Received.{came_at};
 ghost use Rattle.block_recovery.specs.Decoded.{AreInRange};
-ghost use Rattle.session.specs.declared.extent.Extent.{Extent as ExtentValue};
+ghost use Rattle.file_decoder.specs.declared.rereading.Place.{Place as PlaceValue};
 
 use crate::file_source::{FileSource, Indexed};
 use crate::indexing::{find_fti, index};
@@ -91,7 +91,7 @@ fn count_places<F: ReadAt>(
     file: &F,
     indexed: Indexed,
 ) -> Result<Result<FileSymbols, Answer>, FileFault>
-    requires range { (held : ExtentValue → List ℕ)
+    requires range { (held : PlaceValue → List ℕ)
         → AreInRange indexed.fti (came_at held indexed.symbols) }
     requires told { (x : List ℕ) → F.content file.now ≡ Some x → (ds : List (List ℕ))
         × IsFramed ds x × AreIndexedOf indexed.identity ds x indexed }

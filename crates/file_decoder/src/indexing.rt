@@ -20,18 +20,18 @@ ghost use Rattle.file_decoder.specs.Indexing.{IsAlone, IsCarriedIn, IsWholeBut};
 ghost use Rattle.block_recovery.specs.Refusals.{IsRefusal};
 ghost use Rattle.block_recovery.specs.Received.{AreReceived, IsIndex, IsNothing, came_at, list_of};
 ghost use Rattle.block_recovery.specs.Decoded.{AreInRange};
-ghost use Rattle.session.specs.declared.extent.Extent.{Extent as ExtentValue};
+ghost use Rattle.file_decoder.specs.declared.rereading.Place.{Place as PlaceValue};
 ghost use Rattle.partition.specs.Fti.{Fti as FtiValue, block_count, encoding_count};
 
 use crate::indexed_file::FileFault;
-use crate::rereading::read_alone;
+use crate::rereading::{Place, read_alone};
 use alc::Packet;
 use block_recovery::{Arrival, DecodeFault, Symbols, fault_at};
 use decoder::Unread;
 use lists::are_bytes;
 use partition::Fti;
 use reception::{Identity, Look, Scope};
-use session::{Extent, FrameFault, Position, Read, read_next, read_next_into};
+use session::{FrameFault, Position, Read, read_next, read_next_into};
 use std::alloc::Global;
 use streams::{Cursor, ReadAt};
 
@@ -116,8 +116,8 @@ pub(crate) fn find_fti<F: ReadAt>(
 }
 
 // The last of a block's places that has this ESI.
-fn last_place(arrivals: &[Arrival<Extent>], esi: u8) -> Option<Extent>
-    ensures at { (held : ExtentValue → List ℕ)
+fn last_place(arrivals: &[Arrival<Place>], esi: u8) -> Option<Place>
+    ensures at { (held : PlaceValue → List ℕ)
         → option_map held result ≡ arrived_at held arrivals.now esi }
     ensures listed { IfSome result (λ p.
         Contains arrivals.now (record { esi = esi; symbol = p })) }
@@ -132,8 +132,8 @@ fn last_place(arrivals: &[Arrival<Extent>], esi: u8) -> Option<Extent>
 }
 
 // Where the packet at a block and an ESI stands, if one came.
-fn place_of(symbols: &Symbols<Extent>, block: u32, esi: u8) -> Option<Extent>
-    ensures at { (held : ExtentValue → List ℕ)
+fn place_of(symbols: &Symbols<Place>, block: u32, esi: u8) -> Option<Place>
+    ensures at { (held : PlaceValue → List ℕ)
         → option_map held result ≡ came_at held symbols.now block esi }
     ensures listed { IfSome result (λ p.
         Contains (list_of symbols.now block) (record { esi = esi; symbol = p })) }
@@ -147,17 +147,17 @@ fn keep<F: ReadAt>(
     alloc: Global,
     file: &F,
     scope: &Scope,
-    symbols: &mut Symbols<Extent>,
+    symbols: &mut Symbols<Place>,
     packet: &Packet<'_>,
-    extent: Extent,
+    place: Place,
 ) -> Result<bool, Unread>
     requires { (f : FtiValue) × (scope.now.fti ≡ Some f) }
     ensures here { (x : List ℕ) → F.content file.now ≡ Some x
         → AreSymbolsIn x scope.now symbols.old
-        → packet.now.symbol.now ≡ held_in x extent → IfOk result (λ kept. kept ≡ true
+        → packet.now.symbol.now ≡ held_in x place → IfOk result (λ kept. kept ≡ true
         → came_at (held_in x) symbols.new packet.now.sbn packet.now.esi
         ≡ Some packet.now.symbol.now) }
-    ensures elsewhere { OnOk result ((held : ExtentValue → List ℕ) (b j : ℕ)
+    ensures elsewhere { OnOk result ((held : PlaceValue → List ℕ) (b j : ℕ)
         → (packet.now.sbn == b && packet.now.esi == j) ≡ false
         → came_at held symbols.new b j ≡ came_at held symbols.old b j) }
     ensures clash { (x : List ℕ) → F.content file.now ≡ Some x
@@ -166,10 +166,10 @@ fn keep<F: ReadAt>(
         → IsIndex earlier (came_at (held_in x) symbols.old)
         → clashes earlier (symbol_of (packet_of packet.now)) ≡ not kept) }
     ensures placed { (x : List ℕ) → AreSymbolsIn x scope.now symbols.old
-        → IsSymbolIn x scope.now packet.now.sbn packet.now.esi extent
+        → IsSymbolIn x scope.now packet.now.sbn packet.now.esi place
         → OnOk result (AreSymbolsIn x scope.now symbols.new) }
     ensures range { (f : FtiValue) → packet.now.sbn < block_count f
-        → packet.now.esi < encoding_count f packet.now.sbn → (held : ExtentValue → List ℕ)
+        → packet.now.esi < encoding_count f packet.now.sbn → (held : PlaceValue → List ℕ)
         → AreInRange f (came_at held symbols.old)
         → OnOk result (AreInRange f (came_at held symbols.new)) }
     ensures again { (x : List ℕ) → F.content file.now ≡ Some x
@@ -178,7 +178,7 @@ fn keep<F: ReadAt>(
     ensures io { IfErr result (λ e. e ≡ Unread.Io → F.reliable file.now ≡ false) }
 {
     let Some(earlier) = place_of(symbols, packet.sbn, packet.esi) else {
-        symbols.put(alloc, packet.sbn, packet.esi, extent)?;
+        symbols.put(alloc, packet.sbn, packet.esi, place)?;
         return Ok(true);
     };
     let symbol = read_alone(alloc, file, scope, packet.sbn, packet.esi, earlier)?;
@@ -193,7 +193,7 @@ fn index_frames<R: Read, F: ReadAt>(
     file: &F,
     identity: Identity,
     fti: Fti,
-) -> Result<Result<Symbols<Extent>, DecodeFault>, FileFault>
+) -> Result<Result<Symbols<Place>, DecodeFault>, FileFault>
     requires bytes { R.remaining reader.old ≡ F.content file.now }
     requires sound { R.sound reader.old ≡ F.reliable file.now }
     ensures received { (x : List ℕ) (ds : List (List ℕ)) → F.content file.now ≡ Some x
@@ -201,7 +201,7 @@ fn index_frames<R: Read, F: ReadAt>(
         IfOk r (λ s. AreReceived identity ds fti (came_at (held_in x) s))) }
     ensures placed { (x : List ℕ) → F.content file.now ≡ Some x → IfOk result (λ r.
         IfOk r (AreSymbolsIn x (with_fti identity fti))) }
-    ensures range { IfOk result (λ r. IfOk r (λ s. (held : ExtentValue → List ℕ)
+    ensures range { IfOk result (λ r. IfOk r (λ s. (held : PlaceValue → List ℕ)
         → AreInRange fti (came_at held s))) }
     ensures fault { (x : List ℕ) (ds : List (List ℕ)) → F.content file.now ≡ Some x
         → IsFramed ds x → scope_in identity ds ≡ with_fti identity fti → IfOk result (λ r.
@@ -236,7 +236,12 @@ fn index_frames<R: Read, F: ReadAt>(
             Ok(Look::Early) => unreachable!(),
             Ok(Look::OtherFti | Look::SymbolLength | Look::Range) | Err(_) => unreachable!(),
         };
-        if !keep(alloc, file, &scope, &mut symbols, &packet, here)? {
+        let stands = Place {
+            offset: here.offset,
+            length: here.length,
+            carrier: packet.fti.is_some(),
+        };
+        if !keep(alloc, file, &scope, &mut symbols, &packet, stands)? {
             read_rest(alloc, reader)?;
             return Ok(Err(DecodeFault::Clash(place)));
         }
@@ -250,13 +255,13 @@ pub(crate) fn index<F: ReadAt>(
     file: &F,
     identity: Identity,
     fti: Fti,
-) -> Result<Result<Symbols<Extent>, DecodeFault>, FileFault>
+) -> Result<Result<Symbols<Place>, DecodeFault>, FileFault>
     ensures received { (x : List ℕ) (ds : List (List ℕ)) → F.content file.now ≡ Some x
         → IsFramed ds x → scope_in identity ds ≡ with_fti identity fti → IfOk result (λ r.
         IfOk r (λ s. AreReceived identity ds fti (came_at (held_in x) s))) }
     ensures placed { (x : List ℕ) → F.content file.now ≡ Some x → IfOk result (λ r.
         IfOk r (AreSymbolsIn x (with_fti identity fti))) }
-    ensures range { IfOk result (λ r. IfOk r (λ s. (held : ExtentValue → List ℕ)
+    ensures range { IfOk result (λ r. IfOk r (λ s. (held : PlaceValue → List ℕ)
         → AreInRange fti (came_at held s))) }
     ensures fault { (x : List ℕ) (ds : List (List ℕ)) → F.content file.now ≡ Some x
         → IsFramed ds x → scope_in identity ds ≡ with_fti identity fti → IfOk result (λ r.

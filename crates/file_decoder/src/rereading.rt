@@ -8,7 +8,7 @@ ghost use Rattle.file_decoder.specs.InFile.{symbol_in, held_in, IsSymbolOf, IsSy
 ghost use Rattle.file_decoder.specs.InFile.{AreOfBlock, StandsIn, BlockStandsIn};
 ghost use Rattle.decoder.specs.Sources.{IsUnreadOf};
 ghost use Rattle.session.specs.Extents.{datagram_in};
-ghost use Rattle.session.specs.declared.extent.Extent.{Extent as ExtentValue};
+ghost use Rattle.file_decoder.specs.declared.rereading.Place.{Place as PlaceValue};
 
 use block_recovery::{Arrival, push_arrival};
 use decoder::Unread;
@@ -16,6 +16,14 @@ use reception::{Look, Scope};
 use session::Extent;
 use std::alloc::{AllocError, Global};
 use streams::{Lanes, ReadAt};
+
+/// Where a packet stands in a file, and whether it is a carrier.
+#[derive(Clone, Copy)]
+pub(crate) struct Place {
+    pub(crate) offset: u64,
+    pub(crate) length: u16,
+    pub(crate) carrier: bool,
+}
 
 /// A reader of datagrams where they stand in a file. The room of the last one is used again.
 #[derive(Drop)]
@@ -64,13 +72,20 @@ impl<'a, F: ReadAt> DatagramReader<'a, F> {
     }
 }
 
-// The symbol of a datagram, if it's a packet in range, of the block and the ESI.
-fn symbol_of<'a>(scope: &Scope, b: u32, esi: u8, datagram: &'a [u8]) -> Option<&'a [u8]>
+// The symbol of a datagram, if it's a packet in range, of the block and the ESI, and a carrier just
+// where this is told.
+fn symbol_of<'a>(
+    scope: &Scope,
+    b: u32,
+    esi: u8,
+    carrier: bool,
+    datagram: &'a [u8],
+) -> Option<&'a [u8]>
     requires { (f : FtiValue) × (scope.now.fti ≡ Some f) }
     ensures symbol { IfSome result (λ s. s.now ≡ symbol_in datagram.now) }
     ensures size { (f : FtiValue) → scope.now.fti ≡ Some f
         → IfSome result (λ s. length s.now ≡ f.symbol_length) }
-    ensures none { IsNone result → IsSymbolOf scope.now b esi datagram.now → ⊥ }
+    ensures none { IsNone result → IsSymbolOf scope.now b esi carrier datagram.now → ⊥ }
 {
     let mut known = *scope;
     let Ok(look) = known.look(datagram) else {
@@ -82,31 +97,38 @@ fn symbol_of<'a>(scope: &Scope, b: u32, esi: u8, datagram: &'a [u8]) -> Option<&
     if packet.sbn != b || packet.esi != esi {
         return None;
     }
+    if packet.fti.is_some() != carrier {
+        return None;
+    }
     Some(packet.symbol)
 }
 
-/// The symbol at an extent, where a packet of the block and the ESI stood.
+/// The symbol at a place, where a packet of the block and the ESI stood.
 pub(crate) fn read_again<F: ReadAt>(
     alloc: Global,
     reader: &mut DatagramReader<'_, F>,
     scope: &Scope,
     b: u32,
     esi: u8,
-    extent: Extent,
+    place: Place,
 ) -> Result<Vec<u8>, Unread>
     requires { (f : FtiValue) × (scope.now.fti ≡ Some f) }
     ensures symbol { (x : List ℕ) → F.content reader.old.lanes.file.now ≡ Some x
-        → IsSymbolIn x scope.now b esi extent
-        → IfOk result (λ v. v.items ≡ held_in x extent) }
+        → IsSymbolIn x scope.now b esi place
+        → IfOk result (λ v. v.items ≡ held_in x place) }
     ensures size { (f : FtiValue) → scope.now.fti ≡ Some f
         → IfOk result (λ v. length v.items ≡ f.symbol_length) }
     ensures fault { IfErr result (IsUnreadOf
-        (StandsIn (F.content reader.old.lanes.file.now) scope.now b esi extent)
+        (StandsIn (F.content reader.old.lanes.file.now) scope.now b esi place)
         (F.reliable reader.old.lanes.file.now)) }
     ensures file { reader.new.lanes.file.now ≡ reader.old.lanes.file.now }
 {
+    let extent = Extent {
+        offset: place.offset,
+        length: place.length,
+    };
     reader.read(esi, extent)?;
-    let Some(symbol) = symbol_of(scope, b, esi, &reader.datagram) else {
+    let Some(symbol) = symbol_of(scope, b, esi, place.carrier, &reader.datagram) else {
         return Err(Unread::Changed);
     };
     let mut own = Vec::with_capacity(alloc, symbol.len())?;
@@ -114,38 +136,38 @@ pub(crate) fn read_again<F: ReadAt>(
     Ok(own)
 }
 
-/// The symbol at one extent alone.
+/// The symbol at one place alone.
 pub(crate) fn read_alone<F: ReadAt>(
     alloc: Global,
     file: &F,
     scope: &Scope,
     b: u32,
     esi: u8,
-    extent: Extent,
+    place: Place,
 ) -> Result<Vec<u8>, Unread>
     requires { (f : FtiValue) × (scope.now.fti ≡ Some f) }
     ensures symbol { (x : List ℕ) → F.content file.now ≡ Some x
-        → IsSymbolIn x scope.now b esi extent
-        → IfOk result (λ v. v.items ≡ held_in x extent) }
+        → IsSymbolIn x scope.now b esi place
+        → IfOk result (λ v. v.items ≡ held_in x place) }
     ensures size { (f : FtiValue) → scope.now.fti ≡ Some f
         → IfOk result (λ v. length v.items ≡ f.symbol_length) }
-    ensures fault { IfErr result (IsUnreadOf (StandsIn (F.content file.now) scope.now b esi extent)
+    ensures fault { IfErr result (IsUnreadOf (StandsIn (F.content file.now) scope.now b esi place)
         (F.reliable file.now)) }
 {
     let mut reader = DatagramReader::new(alloc, file, 0)?;
-    read_again(alloc, &mut reader, scope, b, esi, extent)
+    read_again(alloc, &mut reader, scope, b, esi, place)
 }
 
-/// The symbols at the extents of a block.
+/// The symbols at the places of a block.
 pub(crate) fn read_block_again<F: ReadAt>(
     alloc: Global,
     reader: &mut DatagramReader<'_, F>,
     scope: &Scope,
     b: u32,
-    came: &[Arrival<Extent>],
+    came: &[Arrival<Place>],
 ) -> Result<Vec<Arrival<Vec<u8>>>, Unread>
     requires { (f : FtiValue) × (scope.now.fti ≡ Some f) }
-    ensures some { (held : ExtentValue → List ℕ) → IfOk result (λ v. (j : ℕ)
+    ensures some { (held : PlaceValue → List ℕ) → IfOk result (λ v. (j : ℕ)
         → is_some (arrived_at (λ s. s.items) v.items j)
         ≡ is_some (arrived_at held came.now j)) }
     ensures size { (f : FtiValue) → scope.now.fti ≡ Some f → IfOk result (λ v.

@@ -4,20 +4,19 @@ ghost use Rattle.std.specs.Prelude.{◌≤◌};
 
 use crate::ONE;
 use crate::check_tests::{CERTIFICATE, FIRST_ALONE, NAMED_CERTIFICATE, OBJECT, SESSION};
-use crate::file_tests::{Bytes, framed};
+use crate::file_tests::{Bytes, CHANGES, Changing, FOUR_BYTES, framed, two_blocks, with_byte};
 use crate::receiver_tests::{ORDERS, disturbed, object_of, sent};
 use cert::{CheckFault, Report, Verdict, check_from};
 use certificate::{CertFault, Certificate};
-use coder::{certify_to, encode};
+use coder::certify_to;
 use file_check::{Files, check_files, survey_files};
-use partition::{Fti, Order};
+use partition::Fti;
 use rand_pcg::Pcg32;
 use reception::Identity;
 use session::{FrameFault, Pieces, Sink};
 use std::alloc::Global;
 use std::cell::Cell;
 use std::test::Fail;
-use streams::{Failed, ReadAt, copy_at};
 
 fn is_same_report(a: &Report, b: &Report) -> bool {
     a.blocks.as_slice() == b.blocks.as_slice()
@@ -263,35 +262,6 @@ fn without_a_name(rt: HostRuntime) -> Result<(), Fail> {
     Ok(())
 }
 
-// A file that fails, or has other bytes, from some call on.
-#[derive(Drop)]
-struct Changing<'a> {
-    bytes: &'a [u8],
-    others: &'a [u8],
-    fails: bool,
-    calls: Cell<usize>,
-}
-
-impl ReadAt for Changing<'_> {
-    ghost use Rattle.std.specs.Prelude.{None, false};
-
-    ghost content = { λ _. None };
-
-    ghost reliable = { λ _. false };
-
-    fn read_at(&self, offset: u64, buf: &mut [u8]) -> Result<usize, Failed> {
-        let calls = self.calls.get();
-        if calls > 0 {
-            self.calls.set(calls - 1);
-            return Ok(copy_at(self.bytes, offset, 100, buf));
-        }
-        if self.fails {
-            return Err(Failed);
-        }
-        Ok(copy_at(self.others, offset, 100, buf))
-    }
-}
-
 // What is told where the session changes behind so many calls.
 fn told_of_changing(
     alloc: Global,
@@ -333,53 +303,18 @@ fn of_failing_sessions(rt: HostRuntime) -> Result<(), Fail> {
     Ok(())
 }
 
-// Bytes with this one at a place.
-fn with_byte(alloc: Global, bytes: &[u8], place: usize, byte: u8) -> Result<Vec<u8>, Fail> {
-    let mut other = bytes.to_vec(alloc)?;
-    if let Some(there) = other.as_mut_slice().get_mut(place) {
-        *there = byte;
-    }
-    Ok(other)
-}
-
-// A session of two blocks in which one byte is another once its frames were gone over: its datagram
-// isn't what it was, whatever its symbol is.
+// A session that is another one once its frames were gone over, in each way that there is.
 #[test]
 fn of_changed_sessions(rt: HostRuntime) -> Result<(), Fail> {
     let alloc = rt.alloc();
-    let fti = Fti::new(4, 1, 2, 3)?;
-    let mut sink = Sink::new(alloc);
-    encode(
-        alloc,
-        &[1, 2, 3, 4],
-        1,
-        1,
-        &fti,
-        1,
-        Order::Blocks,
-        &mut sink,
-    )?;
-    let certificate = certificate_of(alloc, &[1, 2, 3, 4], &fti)?;
-    for (place, before, after) in [
-        // No packet; and the packet of another identity.
-        (2, 0x10, 0xFF),
-        (13, 1, 9),
-        // Another block, another ESI, and one that no block has.
-        (32, 0, 1),
-        (33, 0, 1),
-        (33, 0, 200),
-        // Another FTI; none any more, in an extension that says nothing; and one where none was.
-        (25, 4, 3),
-        (18, 0x40, 0),
-        (53, 0, 0x40),
-        // A shorter header, and so a longer symbol.
-        (4, 7, 4),
-    ] {
-        let first = with_byte(alloc, sink.bytes(), place, before)?;
-        let second = with_byte(alloc, sink.bytes(), place, after)?;
+    let session = two_blocks(alloc)?;
+    let certificate = certificate_of(alloc, &FOUR_BYTES, &Fti::new(4, 1, 2, 3)?)?;
+    for (place, before, after) in CHANGES {
+        let first = with_byte(alloc, session.as_slice(), place, before)?;
+        let second = with_byte(alloc, session.as_slice(), place, after)?;
         let held = Held {
             session: first.as_slice(),
-            object: &[1, 2, 3, 4],
+            object: &FOUR_BYTES,
             certificate: certificate.as_slice(),
         };
         let same = told_of_changing(alloc, held, Some(first.as_slice()), 4);

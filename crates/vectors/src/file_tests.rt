@@ -4,12 +4,13 @@ ghost use Rattle.std.specs.Prelude.{◌≤◌};
 
 use crate::ONE;
 use crate::receiver_tests::{ORDERS, disturbed, is_same, object_of, sent};
-use coder::{Answer, DecodeFault, FileFault, decode, index_file};
+use coder::{Answer, DecodeFault, FileFault, decode, encode, index_file};
 use lists::are_bytes;
-use partition::Fti;
+use partition::{Fti, Order};
 use rand_pcg::Pcg32;
 use session::{FrameFault, MOST_BYTES, Sink, write_one};
 use std::alloc::Global;
+use std::cell::Cell;
 use std::test::Fail;
 use streams::{Failed, ReadAt, copy_at};
 
@@ -28,6 +29,78 @@ impl ReadAt for Bytes<'_> {
         are_bytes(self.0);
         Ok(copy_at(self.0, offset, 100, buf))
     }
+}
+
+/// A file that fails, or has other bytes, from some call on.
+#[derive(Drop)]
+pub(crate) struct Changing<'a> {
+    pub(crate) bytes: &'a [u8],
+    pub(crate) others: &'a [u8],
+    pub(crate) fails: bool,
+    pub(crate) calls: Cell<usize>,
+}
+
+impl ReadAt for Changing<'_> {
+    ghost use Rattle.std.specs.Prelude.{None, false};
+
+    ghost content = { λ _. None };
+
+    ghost reliable = { λ _. false };
+
+    fn read_at(&self, offset: u64, buf: &mut [u8]) -> Result<usize, Failed> {
+        let calls = self.calls.get();
+        if calls > 0 {
+            self.calls.set(calls - 1);
+            return Ok(copy_at(self.bytes, offset, 100, buf));
+        }
+        if self.fails {
+            return Err(Failed);
+        }
+        Ok(copy_at(self.others, offset, 100, buf))
+    }
+}
+
+/// An object of two blocks.
+pub(crate) const FOUR_BYTES: [u8; 4] = [1, 2, 3, 4];
+
+/// The object's session: six frames of carriers.
+pub(crate) fn two_blocks(alloc: Global) -> Result<Vec<u8>, Fail> {
+    let fti = Fti::new(4, 1, 2, 3)?;
+    let mut sink = Sink::new(alloc);
+    encode(alloc, &FOUR_BYTES, 1, 1, &fti, 1, Order::Blocks, &mut sink)?;
+    Ok(sink.into_bytes())
+}
+
+/// Where one byte of it makes a datagram another one: the byte's place, and the byte before and
+/// after.
+pub(crate) const CHANGES: [(usize, u8, u8); 9] = [
+    // No packet; and the packet of another identity.
+    (2, 0x10, 0xFF),
+    (13, 1, 9),
+    // Another block, another ESI, and one that no block has.
+    (32, 0, 1),
+    (33, 0, 1),
+    (33, 0, 200),
+    // Another FTI; none any more, in an extension that says nothing; and one where none was.
+    (25, 4, 3),
+    (18, 0x40, 0),
+    (53, 0, 0x40),
+    // A shorter header, and so a longer symbol.
+    (4, 7, 4),
+];
+
+/// Bytes with this one at a place.
+pub(crate) fn with_byte(
+    alloc: Global,
+    bytes: &[u8],
+    place: usize,
+    byte: u8,
+) -> Result<Vec<u8>, Fail> {
+    let mut other = bytes.to_vec(alloc)?;
+    if let Some(there) = other.as_mut_slice().get_mut(place) {
+        *there = byte;
+    }
+    Ok(other)
 }
 
 // What a file gives, with the object that is written from it once its symbols were looked at.
@@ -170,5 +243,43 @@ fn frames_first(rt: HostRuntime) -> Result<(), Fail> {
     assert!(rt; has_fault(alloc, &[0, 1, 7, 0], FrameFault::CutLength));
     assert!(rt; has_fault(alloc, &[0, 1, 7, 0, 2, 7], FrameFault::CutDatagram));
     assert!(rt; has_fault(alloc, &[0, 1, 7, 0xFF, 0xE4], FrameFault::TooLong));
+    Ok(())
+}
+
+// What a file gives whose bytes are others once its frames were gone over.
+fn told_of_changing(
+    alloc: Global,
+    bytes: &[u8],
+    others: &[u8],
+) -> Result<Option<Answer>, FileFault> {
+    let file = Changing {
+        bytes,
+        others,
+        fails: false,
+        calls: Cell::new(usize::MAX),
+    };
+    let symbols = match index_file(alloc, &file, ONE)? {
+        Ok(symbols) => symbols,
+        Err(answer) => return Ok(Some(answer)),
+    };
+    file.calls.set(0);
+    symbols.refutation(alloc, &file)
+}
+
+// A session that is shorter, or another one, once its frames were gone over.
+#[test]
+fn of_changed_sessions(rt: HostRuntime) -> Result<(), Fail> {
+    let alloc = rt.alloc();
+    let session = two_blocks(alloc)?;
+    let cut = told_of_changing(alloc, session.as_slice(), &[]);
+    assert!(rt; matches!(cut, Err(FileFault::Changed)));
+    for (place, before, after) in CHANGES {
+        let first = with_byte(alloc, session.as_slice(), place, before)?;
+        let second = with_byte(alloc, session.as_slice(), place, after)?;
+        let same = told_of_changing(alloc, first.as_slice(), first.as_slice());
+        assert!(rt; matches!(same, Ok(None)), "byte {place}");
+        let told = told_of_changing(alloc, first.as_slice(), second.as_slice());
+        assert!(rt; matches!(told, Err(FileFault::Changed)), "byte {place}");
+    }
     Ok(())
 }

@@ -12,6 +12,7 @@ use Rattle.session.proofs.Passing.{Behind, at_start, read_more, is_next, stands,
 use Rattle.file_decoder.proofs.FileFaults.{frame_fault_is, not_again}
 use Rattle.file_decoder.proofs.Indexed.{scan_starts, scan_ends, scan_passes, scan_stops, scan_clashes, scan_keeps, none_in_range, has_both}
 use Rattle.file_decoder.proofs.ReadAgain.{same_scope, symbol_moves}
+use Rattle.file_decoder.specs.declared.rereading.Place.{Place}
 use Rattle.file_decoder.proofs.indexing.index_frames.Goals as goal
 
 pub loop-symbols-init : goal.loop-symbols-init
@@ -223,6 +224,7 @@ loop-symbols-preserved g c =
     let same = same_scope d (with_fti who f) c.look-look.new.self _ look f refl in
     let known_fti = ap (λ (s : Scope). s.fti) same in
     let both = has_both f p.sbn p.esi (faultless_look d (with_fti who f) c.look-look.new.self p look f known_fti).range in
+    let stands_at : Place = record { offset = c.in_ok-here.here.offset; length = c.in_ok-here.here.length; carrier = c.is_some.result } in
     let long : c.in_ok-here.here.length ≡ length c.in-Some.datagram.items = omega (arith, c.in_ok-here.ensures.length, ap length c.as_slice-bytes.ensures.value) in
     record {
       behind = subst (λ (n : ℕ). Behind (g.F.ReadAt.content c.args.file.now) (g.R.Read.remaining c.read_next_into.new.reader) c.in_ok-here.next.offset n) (sym c.in_ok-here.ensures.more)
@@ -231,17 +233,17 @@ loop-symbols-preserved g c =
       scanned = λ x ds told framed known.
           let n = is_next content left c.loop-symbols.position.offset place i.behind new d reads short x told ds framed in
           let stand = stands content left c.loop-symbols.position.offset place i.behind new d reads short x told c.in_ok-here.here c.in_ok-here.ensures.offset long in
-          let moved = symbol_moves d (with_fti who f) c.look-look.new.self p look f refl x c.in_ok-here.here stand.0 stand.1 in
+          let moved = symbol_moves d (with_fti who f) c.look-look.new.self p look f refl x stands_at stand.0 stand.1 c.is_some.ensures in
           let placed = subst (λ (s : Scope). AreSymbolsIn x s c.loop-symbols.symbols) (sym same) (i.placed x told) in
           rw c.in_ok-here.ensures.more
           (scan_keeps who f ds known (came_at (held_in x) c.loop-symbols.symbols) place (i.scanned x ds told framed known) d c.look-look.new.self n.0 n.1 p look (came_at (held_in x) c.keep.new.symbols)
           (λ earlier index. c.in_ok-keep.ensures.clash x told placed earlier index ∙ ap not c.if-not-branch.false) (c.in_ok-keep.ensures.here x told placed moved.0 c.if-not-branch.false) (λ b j. c.in_ok-keep.ensures.elsewhere (held_in x) b j));
       placed = λ x told.
           let stand = stands content left c.loop-symbols.position.offset place i.behind new d reads short x told c.in_ok-here.here c.in_ok-here.ensures.offset long in
-          let moved = symbol_moves d (with_fti who f) c.look-look.new.self p look f refl x c.in_ok-here.here stand.0 stand.1 in
+          let moved = symbol_moves d (with_fti who f) c.look-look.new.self p look f refl x stands_at stand.0 stand.1 c.is_some.ensures in
           let placed = subst (λ (s : Scope). AreSymbolsIn x s c.loop-symbols.symbols) (sym same) (i.placed x told) in
           subst (λ (s : Scope). AreSymbolsIn x s c.keep.new.symbols) same
-          (c.in_ok-keep.ensures.placed x placed (subst (λ (s : Scope). IsSymbolIn x s c.in-Ok-InRange.packet.sbn c.in-Ok-InRange.packet.esi c.in_ok-here.here) (sym same) moved.1));
+          (c.in_ok-keep.ensures.placed x placed (subst (λ (s : Scope). IsSymbolIn x s c.in-Ok-InRange.packet.sbn c.in-Ok-InRange.packet.esi stands_at) (sym same) moved.1));
       range = λ held. c.in_ok-keep.ensures.range f both.0 both.1 held (i.range held);
     }
 

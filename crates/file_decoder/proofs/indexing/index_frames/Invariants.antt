@@ -5,7 +5,7 @@ use Rattle.reception.specs.Walks.{scope_in}
 use Rattle.file_decoder.specs.InFile.{held_in, AreSymbolsIn}
 use Rattle.block_recovery.specs.Received.{came_at}
 use Rattle.block_recovery.specs.Decoded.{AreInRange}
-use Rattle.session.specs.declared.extent.Extent.{Extent}
+use Rattle.file_decoder.specs.declared.rereading.Place.{Place}
 use Rattle.session.proofs.Passing.{Behind}
 use Rattle.block_recovery.proofs.Receiving.{Scanned}
 use Rattle.file_decoder.proofs.indexing.index_frames.Given as goal
@@ -17,7 +17,7 @@ invariant-loop-symbols g l = record {
   scanned : (x : List ℕ) (ds : List (List ℕ)) → g.F.ReadAt.content l.file ≡ Some x → IsFramed ds x → scope_in l.identity ds ≡ with_fti l.identity l.fti
       → Scanned (scope_in l.identity ds) ds (with_fti l.identity l.fti) (came_at (held_in x) l.symbols) l.position.place;
   placed : (x : List ℕ) → g.F.ReadAt.content l.file ≡ Some x → AreSymbolsIn x (with_fti l.identity l.fti) l.symbols;
-  range : (held : Extent → List ℕ) → AreInRange l.fti (came_at held l.symbols);
+  range : (held : Place → List ℕ) → AreInRange l.fti (came_at held l.symbols);
 }
 
 abbrev pub decreases-loop-symbols : goal.decreases-loop-symbols

@@ -15,7 +15,7 @@ returns-in_default-clause-clash g c = λ x told placed earlier index.
 
 pub returns-in_default-clause-placed : goal.returns-in_default-clause-placed
 returns-in_default-clause-placed g c = λ x placed here.
-    more_placed x c.args.scope.now c.args.symbols.now c.put.new.self c.args.packet.now.sbn (record { esi = c.args.packet.now.esi; symbol = c.args.extent }) placed here
+    more_placed x c.args.scope.now c.args.symbols.now c.put.new.self c.args.packet.now.sbn (record { esi = c.args.packet.now.esi; symbol = c.args.place }) placed here
     c.in_ok-put.ensures.more c.in_ok-put.ensures.others
 
 pub returns-clause-here : goal.returns-clause-here

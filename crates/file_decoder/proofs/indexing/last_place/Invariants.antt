@@ -2,11 +2,11 @@ use Rattle.std.specs.Prelude.{option_map, IfSome}
 use Rattle.std.specs.List.{Contains}
 use Rattle.std.proofs.Common.{◌≡◌, ℕ, List, take}
 use Rattle.block_recovery.specs.Arrivals.{arrived_at}
-use Rattle.session.specs.declared.extent.Extent.{Extent}
+use Rattle.file_decoder.specs.declared.rereading.Place.{Place}
 use Rattle.file_decoder.proofs.indexing.last_place.Given as goal
 
 abbrev pub invariant-loop-arrival : goal.invariant-loop-arrival
 invariant-loop-arrival l = record {
-  at : (held : Extent → List ℕ) → option_map held l.found ≡ arrived_at held (take l.arrival-index l.arrivals) l.esi;
+  at : (held : Place → List ℕ) → option_map held l.found ≡ arrived_at held (take l.arrival-index l.arrivals) l.esi;
   listed : IfSome l.found (λ p. Contains l.arrivals (record { esi = l.esi; symbol = p }));
 }
