@@ -23,7 +23,7 @@ use Rattle.commands.specs.Inputs.{ACertificate, AnObject, Bytes, HasValue, HaveV
 use Rattle.commands.specs.Commands.{Refuses, inputs_of}
 use Rattle.commands.specs.Outcomes.{IsBecause}
 use Rattle.commands.specs.Doing.{HasStopped}
-use Rattle.check_commands.specs.Checks.{IsNotChecked, OfFiles}
+use Rattle.check_commands.specs.Checks.{HaveChanged, IsNotChecked, OfFiles}
 use Rattle.check_commands.specs.CheckFaults.{fault_of}
 use Rattle.check_commands.specs.Summing.{CanBeSummed}
 use Rattle.commands.specs.declared.fault.Fault.{Fault}
@@ -121,6 +121,21 @@ module _ (w : World) (r : CheckRequest) (session object text : Option (List ℕ)
 
   pub unchecked : (fault : CheckFault) → IsFaultUntold s text t fault → WhereTold session object text (λ x y z. IsFilesFault r.identity reliable x y z fault) → HasStopped w w (Check r) (fault_of r.session r.object fault)
   unchecked fault untold h = stopped w (Check r) (fault_of r.session r.object fault) (because_files fault untold h)
+
+  -- one of them was changed
+  pub changed_since : (fault : Fault) → HaveChanged w r.session.now r.object.now r.certificate.now fault → HasStopped w w (Check r) fault
+  changed_since (told_as.File n) (inl is, may) = stopped w (Check r) (told_as.File n) (by_refused w w (Check r) [] (told_as.File n) (is, may))
+  changed_since (told_as.File n) (inr (inl is), may) = stopped w (Check r) (told_as.File n) (by_unread w w (Check r) [] (told_as.File n) (inr (Opened session, gives_session.bytes, inl (is, may))))
+  changed_since (told_as.File n) (inr (inr is), may) =
+      let value = an_object w.files r.object.now object gives_object.bytes in
+      stopped w (Check r) (told_as.File n) (by_unread w w (Check r) [] (told_as.File n) (inr (Opened session, gives_session.bytes, inr (value.0, value.1, inl (is, may)))))
+  changed_since (told_as.Open n) h = absurd h
+  changed_since told_as.Memory h = absurd h
+  changed_since (told_as.Frame e) h = absurd h
+  changed_since (told_as.Certificate e) h = absurd h
+  changed_since (told_as.Fti e) h = absurd h
+  changed_since (told_as.Send e) h = absurd h
+  changed_since (told_as.NoPlace n) h = absurd h
 
   of_files : (Fact : List ℕ → List ℕ → List ℕ → Type 0) → (files : Option Files) → files ≡ w.files → WhereTold session object text Fact → OfFiles files r Fact
   of_files Fact None is h = tt

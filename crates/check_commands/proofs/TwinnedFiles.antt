@@ -29,23 +29,37 @@ use Rattle.cert.specs.declared.fault.CheckFault.TheVariants as check_fault
 use Rattle.file_check.specs.declared.checking.ShortBlock.{ShortBlock}
 use Rattle.request.specs.declared.requests.TwinRequest.{TwinRequest}
 use Rattle.request.specs.declared.requests.Request.TheVariants.{Twin}
-use Rattle.host.specs.World.{Files, GivesFile, Holds, IsFree, MayFail, Replaces, World, one_more}
+use Rattle.host.specs.World.{Files, GivesFile, Holds, IsFree, IsSilent, MayFail, Replaces, World, one_more}
 use Rattle.commands.specs.Inputs.{ASession, Bytes, Datagrams, Opened, Polynomials, HasValue, HaveValues, IsUnopened, IsUnread, Value}
 use Rattle.commands.specs.Lines.{line_of, short_text}
 use Rattle.commands.specs.Commands.{Gives, GivesTwin, Outcome, inputs_of}
 use Rattle.commands.specs.Outcomes.{IsBecause, MayCreate}
-use Rattle.commands.specs.Doing.{HasMade, HasStopped, text_of}
-use Rattle.check_commands.specs.TwinsTold.{AreUnread, HasJudged, HoldsFrames, IsFoundIn, IsJudged, IsUnframed, IsUntwinned, TellsNoTwin}
+use Rattle.commands.specs.Doing.{HasMade, HasStopped, IsUnwrittenAgain, text_of}
+use Rattle.check_commands.specs.TwinsTold.{AreUnread, HasJudged, HoldsFrames, IsFoundIn, IsJudged, IsUntwinned, TellsNoTwin}
 use Rattle.check_commands.specs.CheckFaults.{fault_of}
+use Rattle.check_commands.specs.Checks.{HaveChanged}
 use Rattle.commands.specs.declared.done.Done.{Done}
 use Rattle.commands.specs.declared.done.Told.TheVariants.{Lines}
+use Rattle.commands.specs.ReadingInputs.{HasChanged, IsUnframed}
 use Rattle.commands.specs.declared.fault.Fault.{Fault}
 use Rattle.commands.specs.declared.fault.Fault.TheVariants as told_as
 use Rattle.commands.specs.declared.output.Unwritten.{Unwritten}
 use Rattle.commands.specs.declared.output.Unwritten.TheVariants as unwritten
 use Rattle.check_commands.proofs.CheckedFiles.{an_object, certificate_unopened, no_certificate, object_unopened}
-use Rattle.commands.proofs.Stopping.{by_unread, kept_whole, stopped}
+use Rattle.commands.proofs.Stopping.{by_unread, kept_whole, may_fail, stopped}
 use Rattle.commands.proofs.Holding.{holds_told}
+use Rattle.commands.proofs.Passing.{no_datagrams, session_unopened, unframed}
+
+abbrev equal : Result ℕ Unwritten → Result ℕ Unwritten → Type 0
+equal a b = a ≡ b
+
+fault_of_err : (e : Unwritten) (f : Fault) → equal (Err e) (Err (unwritten.Fault f)) → e ≡ unwritten.Fault f
+fault_of_err e f is = cc
+
+-- what came of it is what was written, where its source hasn't changed
+pub same_ok : (own written : Result ℕ Unwritten) → OnOk written (written ≡ own) → (n : ℕ) → written ≡ Ok n → own ≡ Ok n
+same_ok own (Ok x) h n is = sym h ∙ is
+same_ok own (Err e) h n is = absurd (cc)
 
 some_same : {A : Type 0} {x y : A} → Some x ≡ Some y → x ≡ y
 some_same e = cc
@@ -57,86 +71,9 @@ told_or_not (Some held) = inr (held, refl)
 
 -- ---- a session that was gone over
 
-pub no_datagrams : AreDatagrams []
-no_datagrams i = record { short = omega arith; bytes = λ j. omega arith }
-
--- what is known of what a reader of a file gives is known of the file
-told_frames : (content remaining : Option (List ℕ)) → ((x : List ℕ) → content ≡ Some x → remaining ≡ Some x) → AreFrames remaining → AreFrames content
-told_frames None remaining same h = tt
-told_frames (Some x) remaining same h = subst (λ (o : Option (List ℕ)). AreFrames o) (same x refl) h
-
-pub framed_told : (content remaining : Option (List ℕ)) → ((x : List ℕ) → content ≡ Some x → remaining ≡ Some x) → {A E : Type 0} (r : Result A E) → OnOk r (AreFrames remaining) → OnOk r (AreFrames content)
-framed_told content remaining same (Ok a) h = told_frames content remaining same h
-framed_told content remaining same (Err e) h = tt
-
-told_stops : (e : FrameFault) (content remaining : Option (List ℕ)) → ((x : List ℕ) → content ≡ Some x → remaining ≡ Some x) → IfSome remaining (StopsAt e) → IfSome content (StopsAt e)
-told_stops e None remaining same h = tt
-told_stops e (Some x) remaining same h = subst (λ (o : Option (List ℕ)). IfSome o (StopsAt e)) (same x refl) h
-
-module _ (content remaining : Option (List ℕ)) (same : (x : List ℕ) → content ≡ Some x → remaining ≡ Some x) (sound reliable : Bool) (is : sound ≡ reliable) where
-  told_frame : (e : FrameFault) → IsUnframed remaining sound (told_as.Frame e) → IsUnframed content reliable (told_as.Frame e)
-  told_frame frame_fault.CutLength h = told_stops frame_fault.CutLength content remaining same h
-  told_frame frame_fault.CutDatagram h = told_stops frame_fault.CutDatagram content remaining same h
-  told_frame frame_fault.TooLong h = told_stops frame_fault.TooLong content remaining same h
-  told_frame frame_fault.Io h = sym is ∙ h
-  told_frame frame_fault.NoMemory h = h
-  told_frame (frame_fault.NoSuchPlace p) h = h
-
-  told_fault : (fault : Fault) → IsUnframed remaining sound fault → IsUnframed content reliable fault
-  told_fault (told_as.Open n) h = h
-  told_fault (told_as.File n) h = h
-  told_fault told_as.Memory h = h
-  told_fault (told_as.Frame e) h = told_frame e h
-  told_fault (told_as.Certificate e) h = h
-  told_fault (told_as.Fti e) h = h
-  told_fault (told_as.Send e) h = h
-  told_fault (told_as.NoPlace n) h = h
-
-  pub unframed_told : {A : Type 0} (r : Result A Fault) → IfErr r (IsUnframed remaining sound) → IfErr r (IsUnframed content reliable)
-  unframed_told (Ok a) h = tt
-  unframed_told (Err fault) h = told_fault fault h
-
--- why the next frame isn't had, behind those that were read
-pub unframed_by : (e : FrameFault) (a : Option (List ℕ)) (failed sound : Bool) → IsSessionFault e a failed → (e ≡ frame_fault.Io → sound ≡ false) → IsUnframed a sound (told_as.Frame e)
-unframed_by frame_fault.CutLength a failed sound h io = h
-unframed_by frame_fault.CutDatagram a failed sound h io = h
-unframed_by frame_fault.TooLong a failed sound h io = h
-unframed_by frame_fault.Io a failed sound h io = io refl
-unframed_by frame_fault.NoMemory a failed sound h io = tt
-unframed_by (frame_fault.NoSuchPlace p) a failed sound h io = h
-
 pub a_session : (files : Option Files) (r : TwinRequest) → HoldsFrames files r → (value : Value) × HasValue files (ASession r.session.now) value
 a_session None r h = (Datagrams [], tt)
 a_session (Some held) r h = (Datagrams h.2.0, (h.0, h.1, h.2.1))
-
-session_unopened : (w : World) (name : List ℕ) (fault : Fault) → IsUnopened w name fault → IsUnread w (ASession name) fault
-session_unopened w name (told_as.Open n) h = h
-session_unopened w name (told_as.File n) h = absurd h
-session_unopened w name told_as.Memory h = h
-session_unopened w name (told_as.Frame e) h = absurd h
-session_unopened w name (told_as.Certificate e) h = absurd h
-session_unopened w name (told_as.Fti e) h = absurd h
-session_unopened w name (told_as.Send e) h = absurd h
-session_unopened w name (told_as.NoPlace n) h = absurd h
-
-module _ (w : World) (name : List ℕ) (content : Option (List ℕ)) (reliable : Bool) (given : GivesFile w name content reliable) where
-  unframed_frame : (e : FrameFault) → IsUnframed content reliable (told_as.Frame e) → IsUnread w (ASession name) (told_as.Frame e)
-  unframed_frame frame_fault.CutLength h = holds_told w.files name content (StopsAt frame_fault.CutLength) given.bytes h
-  unframed_frame frame_fault.CutDatagram h = holds_told w.files name content (StopsAt frame_fault.CutDatagram) given.bytes h
-  unframed_frame frame_fault.TooLong h = holds_told w.files name content (StopsAt frame_fault.TooLong) given.bytes h
-  unframed_frame frame_fault.Io h = given.fails h
-  unframed_frame frame_fault.NoMemory h = tt
-  unframed_frame (frame_fault.NoSuchPlace p) h = absurd h
-
-  unframed : (fault : Fault) → IsUnframed content reliable fault → IsUnread w (ASession name) fault
-  unframed (told_as.Open n) h = absurd h
-  unframed (told_as.File n) h = absurd h
-  unframed told_as.Memory h = tt
-  unframed (told_as.Frame e) h = unframed_frame e h
-  unframed (told_as.Certificate e) h = absurd h
-  unframed (told_as.Fti e) h = absurd h
-  unframed (told_as.Send e) h = absurd h
-  unframed (told_as.NoPlace n) h = absurd h
 
 module _ (w : World) (r : TwinRequest) where
   pub session_unread : (fault : Fault) → IsUnopened w r.session.now fault → AreUnread w r fault
@@ -156,6 +93,23 @@ module _ (w : World) (r : TwinRequest) where
       let value = a_session w.files r framed in
       let object = an_object w.files r.object.now content given in
       inr (value.0, value.1, inr (object.0, object.1, inl (certificate_unopened w r.certificate.now fault h)))
+
+  -- one of the files was changed
+  pub changed_since : HoldsFrames w.files r → (content : Option (List ℕ)) → Holds w.files r.object.now (λ bytes. content ≡ Some bytes) → (fault : Fault)
+      → HaveChanged w r.session.now r.object.now r.certificate.now fault → AreUnread w r fault
+  changed_since framed content given (told_as.File n) (inl is, may) = inl (is, may)
+  changed_since framed content given (told_as.File n) (inr (inl is), may) = let value = a_session w.files r framed in inr (value.0, value.1, inl (is, may))
+  changed_since framed content given (told_as.File n) (inr (inr is), may) =
+      let value = a_session w.files r framed in
+      let object = an_object w.files r.object.now content given in
+      inr (value.0, value.1, inr (object.0, object.1, inl (is, may)))
+  changed_since framed content given (told_as.Open n) h = absurd h
+  changed_since framed content given told_as.Memory h = absurd h
+  changed_since framed content given (told_as.Frame e) h = absurd h
+  changed_since framed content given (told_as.Certificate e) h = absurd h
+  changed_since framed content given (told_as.Fti e) h = absurd h
+  changed_since framed content given (told_as.Send e) h = absurd h
+  changed_since framed content given (told_as.NoPlace n) h = absurd h
 
 -- ---- the verdict on all datagrams of a session
 
@@ -461,3 +415,23 @@ module _ (r : TwinRequest) (short : ShortBlock) where
   unwritten_why old new found content reliable given written h fault is =
       unwritten_because old new found content reliable given fault
       (subst (λ (x : Result ℕ Unwritten). IfErr x (IsUntwinned short.fti.transfer_length content reliable r.object.now)) is h)
+
+  -- or what was read for it has changed since
+  pub unwritten_again : (old mid new : World) → mid.files ≡ old.files → IsSilent old mid → IsFoundIn old.files r (No (Thin short.block short.have short.need)) (Some short) → (content : Option (List ℕ)) (reliable : Bool)
+      → GivesFile old r.object.now content reliable → (own : Result ℕ Unwritten) → IfErr own (IsUntwinned short.fti.transfer_length content reliable r.object.now) → (written : Result ℕ Unwritten)
+      → IfErr written (λ e. (own ≡ Err e) ⊎ IsUnwrittenAgain mid r.object.now e) → (fault : Fault) → written ≡ Err (unwritten.Fault fault) → IsBecause old new (Twin r) [] fault
+  unwritten_again old mid new files silent found content reliable given own why (Ok n) h fault is = absurd (cc)
+  unwritten_again old mid new files silent found content reliable given own why (Err e) (inl same) fault is = unwritten_why old new found content reliable given own why fault (same ∙ is)
+  unwritten_again old mid new files silent found content reliable given own why (Err e) (inr again) fault is = changed fault (subst (λ (u : Unwritten). IsUnwrittenAgain mid r.object.now u) (fault_of_err e fault is) again)
+    where
+      changed : (f : Fault) → HasChanged mid r.object.now f → IsBecause old new (Twin r) [] f
+      changed (told_as.File n) (is, fails) =
+          (let value = a_value old.files found in
+          by_unread old new (Twin r) [] (told_as.File n) (inr (value.0, value.1, inl (is, may_fail old mid files silent fails))))
+      changed (told_as.Open n) h = absurd h
+      changed told_as.Memory h = absurd h
+      changed (told_as.Frame e) h = absurd h
+      changed (told_as.Certificate e) h = absurd h
+      changed (told_as.Fti e) h = absurd h
+      changed (told_as.Send e) h = absurd h
+      changed (told_as.NoPlace n) h = absurd h

@@ -10,14 +10,14 @@ use Rattle.cert.specs.Report.{IsReport, OnYes}
 use Rattle.cert.specs.declared.verdict.Verdict.{Verdict}
 use Rattle.request.specs.declared.requests.CheckRequest.{CheckRequest}
 use Rattle.request.specs.declared.requests.Request.TheVariants.{Check}
-use Rattle.host.specs.World.{Files}
+use Rattle.host.specs.World.{Files, MayFail, World}
 use Rattle.commands.specs.Inputs.{Opened, Bytes, Polynomials, HaveValues}
 use Rattle.commands.specs.Commands.{inputs_of, status_of, TellsVerdict}
 use Rattle.check_commands.specs.declared.check.Answered.{Answered}
 use Rattle.commands.specs.Doing.{text_of}
 use Rattle.check_commands.specs.Drawing.{HasDrawn}
 use Rattle.commands.specs.declared.fault.Fault.{Fault}
-use Rattle.commands.specs.declared.fault.Fault.TheVariants.{Memory, Frame}
+use Rattle.commands.specs.declared.fault.Fault.TheVariants.{File, Memory, Frame}
 
 -- behind datagrams that have no reason against them comes no frame, or there is no memory
 abbrev pub IsNotChecked : Identity → Bool → Option (List ℕ) → List ℕ → CertificateValue → Fault
@@ -65,6 +65,12 @@ TellsRequest files r answered =
     TellsHeld files r answered ⊎ ((files ≡ None) × TellsSome r answered)
 
 -- ---- files that are checked where they stand
+
+-- one of these files isn't as it was when it was opened, which is so only where the host may fail
+abbrev pub HaveChanged : World → List ℕ → List ℕ → List ℕ → Fault → Type 0
+HaveChanged world session object certificate (File read) =
+    ((read.now ≡ session) ⊎ (read.now ≡ object) ⊎ (read.now ≡ certificate)) × MayFail world
+HaveChanged world session object certificate fault = ⊥
 
 -- a fact of what a request's files hold, where they tell it
 abbrev pub OfFiles : Option Files → CheckRequest → (List ℕ → List ℕ → List ℕ → Type 0) → Type 0

@@ -2,9 +2,7 @@
 use Rattle.std.specs.Prelude.{◌≡◌, ◌≤◌, ℕ, Bool, false, List, [], ◌∷◌, length, Option, Some, None}
 use Rattle.std.specs.Prelude.{Vec, codes, IfSome, ⊤}
 use Rattle.std.specs.declared.alloc.Global.{Global}
-use Rattle.session.specs.Frames.{AreDatagrams, IsFramed, StopsAt}
-use Rattle.session.specs.declared.frame.FrameFault.TheVariants.{Io as FrameIo, NoSuchPlace}
-use Rattle.session.specs.declared.frame.FrameFault.TheVariants.{NoMemory as NoFrameMemory}
+use Rattle.session.specs.Frames.{AreDatagrams, IsFramed}
 use Rattle.reception.specs.declared.scope.Identity.{Identity}
 use Rattle.certificate.specs.Certificate.{Certificate as CertificateValue}
 use Rattle.cert.specs.Twins.{IsTwinOfSession}
@@ -21,7 +19,7 @@ use Rattle.commands.specs.Inputs.{Datagrams, Bytes, Polynomials, HaveValues, IsF
 use Rattle.commands.specs.Lines.{line_of, short_text, verdict_text}
 use Rattle.commands.specs.Commands.{inputs_of}
 use Rattle.commands.specs.declared.fault.Fault.{Fault}
-use Rattle.commands.specs.declared.fault.Fault.TheVariants.{File, Memory, Frame}
+use Rattle.commands.specs.declared.fault.Fault.TheVariants.{File, Memory}
 use Rattle.commands.specs.declared.output.Unwritten.{Unwritten}
 use Rattle.commands.specs.declared.output.Unwritten.TheVariants.{Writing, Fault as ByFault}
 use Rattle.check_commands.specs.declared.twin.Answered.{Answered}
@@ -62,16 +60,6 @@ TellsTwin who inputs answered =
 abbrev pub HoldsFrames : Option Files → TwinRequest → Type 0
 HoldsFrames files r = Holds files r.session.now
     (λ bytes. (datagrams : List (List ℕ)) × IsFramed datagrams bytes × AreDatagrams datagrams)
-
--- Why a file isn't gone over to its end, all frames: what stands there is none, or the file has
--- failed, or there is no memory.
-abbrev pub IsUnframed : Option (List ℕ) → Bool → Fault → Type 0
-IsUnframed content reliable (Frame FrameIo) = reliable ≡ false
-IsUnframed content reliable (Frame NoFrameMemory) = ⊤
-IsUnframed content reliable (Frame (NoSuchPlace place)) = ⊥
-IsUnframed content reliable (Frame fault) = IfSome content (StopsAt fault)
-IsUnframed content reliable Memory = ⊤
-IsUnframed content reliable fault = ⊥
 
 -- these are the files of a request that are opened
 pub record AreOpened {I : Type 0} (opened : OpenInputs I) (session object certificate : I)

@@ -7,7 +7,7 @@ ghost use Rattle.request.specs.declared.requests.Request.TheVariants.{Check};
 ghost use Rattle.commands.specs.Commands.{TellsVerdict, status_of as verdict_status};
 ghost use Rattle.commands.specs.Doing.{HasMade, HasStopped, text_of};
 ghost use Rattle.host.specs.World.{GivesFile};
-ghost use Rattle.check_commands.specs.Checks.{IsNotChecked, TellsCheck, TellsRequest};
+ghost use Rattle.check_commands.specs.Checks.{HaveChanged, IsNotChecked, TellsCheck, TellsRequest};
 ghost use Rattle.check_commands.specs.Drawing.{HasDrawn, IsSurveyed};
 ghost use Rattle.check_commands.specs.Summing.{CanBeSummed};
 ghost use Rattle.commands.specs.Lines.{named, block_text, kill_text, losses_text, report_text};
@@ -128,11 +128,38 @@ fn answer_files<'a, H: Host>(
     };
     match checked {
         Ok(Some((verdict, survey))) => {
+            see_files(
+                host,
+                (request.session, request.object, request.certificate),
+                files,
+            )?;
             Ok(Some(answer_verdict(alloc, request, object_length, &verdict, &survey)?))
         }
         Ok(None) => Ok(None),
         Err(fault) => Err(check_fault(request.session, request.object, fault)),
     }
+}
+
+/// Fails where one of the files, which were opened under these names, isn't as it was then: the
+/// session, the object or the certificate, the first in this order.
+pub(crate) fn see_files<'a, H: Host>(
+    host: &H,
+    names: (&'a str, &'a str, &'a str),
+    files: &Files<'_, H::Input, H::Input, H::Input>,
+) -> Result<(), Fault<'a>>
+    ensures { IfErr result (HaveChanged (H.world host.now)
+        names.entry.0.now names.entry.1.now names.entry.2.now) }
+{
+    if !host.is_unchanged(files.session) {
+        return Err(Fault::File(names.0));
+    }
+    if !host.is_unchanged(files.object) {
+        return Err(Fault::File(names.1));
+    }
+    if !host.is_unchanged(files.certificate) {
+        return Err(Fault::File(names.2));
+    }
+    Ok(())
 }
 
 // What is told of the frames that a reader has left.

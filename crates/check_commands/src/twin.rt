@@ -3,7 +3,6 @@ ghost use Rattle.std.specs.Prelude.{◌≡◌, ◌<◌, ℕ, List, Some, true, l
 ghost use Rattle.std.specs.Prelude.{IfSome, OnOk};
 ghost use Rattle.std.specs.Io.KnownBytes.{Appends};
 ghost use Rattle.partition.specs.Fti.{block_count, source_count};
-ghost use Rattle.session.specs.Extents.{AreFrames};
 ghost use Rattle.cert.specs.TwinBytes.{AppendsAny, twin_bytes};
 ghost use Rattle.cert.specs.Twins.{different_esis};
 ghost use Rattle.cert.specs.declared.verdict.Reason.TheVariants.{Thin};
@@ -16,24 +15,23 @@ ghost use Rattle.commands.specs.Inputs.{IsUnread};
 ghost use Rattle.commands.specs.Lines.{line_of, short_text};
 ghost use Rattle.check_commands.specs.TwinsTold.{GivesInputs, AreOpened, AreUnread, HoldsFrames};
 ghost use Rattle.check_commands.specs.TwinsTold.{IsFoundIn};
-ghost use Rattle.check_commands.specs.TwinsTold.{IsUnframed, IsUntwinned, TellsNoTwin, TellsTwin};
+ghost use Rattle.check_commands.specs.TwinsTold.{IsUntwinned, TellsNoTwin, TellsTwin};
 
-use crate::check::reason_line;
+use crate::check::{reason_line, see_files};
 use crate::faults::check_fault;
 use cert::{TwinFault, Verdict, session_twin, write_twin};
 use certificate::Certificate;
 use commands::{
-    Done, Fault, Text, Told, Unwritten, certificate_in, commit, create, object_in, open,
-    read_certificate, read_object, session_in, write_output,
+    Done, Fault, Text, Told, Unwritten, certificate_in, commit, if_unchanged, object_in, open,
+    pass_frames, read_certificate, read_object, session_in, write_output,
 };
 use file_check::{Files, ShortBlock, check_for_twin};
 use host::Host;
-use lists::are_bytes;
 use reception::Identity;
 use request::TwinRequest;
-use session::{FrameFault, Read, Session, Write, read_next_into};
+use session::{Session, Write};
 use std::alloc::{AllocError, Global};
-use streams::{Cursor, ReadAt};
+use streams::ReadAt;
 
 /// What a twin is made of, as the files hold it.
 #[derive(Drop)]
@@ -102,33 +100,6 @@ fn open_inputs<'a, H: Host>(
         object: Some(object),
         certificate: Some(certificate),
     })
-}
-
-// Goes over the frames of a session that is read at offsets, to its end.
-fn pass_frames<'a, F: ReadAt>(alloc: Global, file: &F) -> Result<(), Fault<'a>>
-    ensures framed { OnOk result (AreFrames (F.content file.now)) }
-    ensures fault { IfErr result (IsUnframed (F.content file.now) (F.reliable file.now)) }
-{
-    let mut frames = Cursor::new(file);
-    pass_rest(alloc, &mut frames)
-}
-
-// Goes over the frames that a reader has left, one datagram in the room of the one before.
-fn pass_rest<'a, R: Read>(alloc: Global, frames: &mut R) -> Result<(), Fault<'a>>
-    ensures framed { OnOk result (AreFrames (R.remaining frames.old)) }
-    ensures fault { IfErr result (IsUnframed (R.remaining frames.old) (R.sound frames.old)) }
-{
-    let mut room = Vec::new(alloc);
-    loop {
-        let datagram = match read_next_into(frames, room) {
-            Ok(Some(datagram)) => datagram,
-            Ok(None) => return Ok(()),
-            Err(FrameFault::NoMemory) => return Err(Fault::Memory),
-            Err(fault) => return Err(Fault::Frame(fault)),
-        };
-        are_bytes(datagram.as_slice());
-        room = datagram;
-    }
 }
 
 // The session, the object and the certificate of a request, read in this order.
@@ -318,7 +289,14 @@ fn found_in<'a, H: Host>(
         (HasStopped (H.world host.now) (H.world host.now) (Twin request.now)) }
 {
     match check_for_twin(alloc, files, request.identity) {
-        Ok(found) => Ok(found),
+        Ok(found) => {
+            see_files(
+                host,
+                (request.session, request.object, request.certificate),
+                files,
+            )?;
+            Ok(found)
+        }
         Err(fault) => Err(check_fault(request.session, request.object, fault)),
     }
 }
@@ -367,10 +345,11 @@ fn write_short<'a, H: Host>(
         (HasStopped (H.world host.old) (H.world host.new) (Twin request.now)) }
 {
     let told = Told::Lines(twin_line(alloc, short.block, short.have, short.need)?);
-    let mut file = create(host, &request.output)?;
+    let mut file = host.create_file(request.output.name, request.output.no_clobber)?;
     let written = write_other(alloc, object, request.object, short, &mut file);
+    let written = if_unchanged(host, request.object, Some(object), written);
     let failure = Fault::File(request.output.name);
-    commit(host, request.output.name, file, written, failure)?;
+    commit(host, &request.output, file, written, failure)?;
     Ok(Done { told, status: 0 })
 }
 

@@ -2,3 +2,4 @@ pub mod Gains
 pub mod Numbered
 pub mod Stopping
 pub mod Holding
+pub mod Passing

@@ -42,7 +42,7 @@ use Rattle.request.specs.declared.requests.Request.TheVariants.{Salvage, Join}
 use Rattle.host.specs.World.{World, Holds, MayFail}
 use Rattle.commands.specs.Inputs.{Input, AnObject, ASession, ACertificate, AStream, APlaces, Value}
 use Rattle.commands.specs.Inputs.{Bytes, Datagrams, Polynomials, Opened, Places}
-use Rattle.commands.specs.Inputs.{AreThere, HasValue, HaveValues}
+use Rattle.commands.specs.Inputs.{AreThere, HasValue, HaveValues, IsUnread}
 use Rattle.commands.specs.Lines.{line_of, count_line, short_text, numbered, verdict_text}
 use Rattle.commands.specs.Lines.{answer_text}
 use Rattle.commands.specs.Lines.{reading_text}
@@ -275,7 +275,8 @@ IsUnhadPlace ranges values place = ⊥
 
 -- Why nothing does, though the inputs are there, and what was printed before: a frame can't be read
 -- behind others, or a session isn't as it was; an object's length makes no FTI, or its symbols are
--- too long; a certificate is another's; a session hasn't a place.
+-- too long; a certificate is another's; a session hasn't a place. Of a session that is shown nothing
+-- is printed before its fault, unless the host may fail.
 abbrev pub Refuses : World → Request → List ℕ → Fault → Type 0
 Refuses world (Check r) text (Frame fault) = (fault ≡ FrameIo → MayFail world)
     × (((world.files ≡ None) × (failed : Bool) × IsReadFault fault None None failed)
@@ -285,12 +286,8 @@ Refuses world (Check r) text (Frame fault) = (fault ≡ FrameIo → MayFail worl
     (Opened opened ∷ Bytes object ∷ Polynomials z ∷ [])
     × IsRefusedBehind r.identity fault opened left failed object z))
 Refuses world (Check r) text (File session) = (session.now ≡ r.session.now) × MayFail world
-Refuses world (Show r) text (Frame fault) =
-    (opened : Option (List ℕ)) × (left : Option (List ℕ)) × (readings : List Reading)
-    × (new : Option (List ℕ)) × (failed : Bool)
-    × HasValue world.files (AStream r.session.now) (Opened opened) × AreReadAs opened left readings
-    × (text ≡ told_before r.summary readings)
-    × IsReadFault fault left new failed × (fault ≡ FrameIo → MayFail world)
+Refuses world (Show r) text fault =
+    IsUnread world (ASession r.session.now) fault × ((text ≡ []) ⊎ MayFail world)
 Refuses world (Follow r) text (Frame fault) =
     (left : Option (List ℕ)) × (new : Option (List ℕ)) × (failed : Bool)
     × IsReadFault fault left new failed × (fault ≡ FrameIo → MayFail world)

@@ -1,11 +1,12 @@
 -- What a command has done, before it is told.
-use Rattle.std.specs.Prelude.{◌≡◌, ◌⊎◌, ℕ, List, [], Result, Err}
+use Rattle.std.specs.Prelude.{◌≡◌, ◌⊎◌, ℕ, List, [], Result, Ok, Err}
 use Rattle.request.specs.declared.requests.Output.{Output}
 use Rattle.request.specs.declared.requests.Request.{Request}
 use Rattle.host.specs.World.{World, IsToStay, MayFail, one_more}
 use Rattle.commands.specs.Lines.{count_line}
 use Rattle.commands.specs.Commands.{Outcome}
 use Rattle.commands.specs.Outcomes.{Makes, IsStopped, IsUnprinted}
+use Rattle.commands.specs.ReadingInputs.{HasChanged}
 use Rattle.commands.specs.declared.done.Told.{Told}
 use Rattle.commands.specs.declared.done.Told.TheVariants.{Lines, Count}
 use Rattle.commands.specs.declared.done.Done.{Done}
@@ -44,17 +45,27 @@ IsUndone old new r Unprinted = IsUnprinted old new r
 abbrev pub IsUncreated : World → Output → Fault → Type 0
 IsUncreated world output (Open name) = (name.now ≡ output.name.now)
     × (MayFail world ⊎ IsToStay world.files output.name.now output.no_clobber)
-IsUncreated world output Memory = Unit {0}
 IsUncreated world output fault = ⊥
 
--- Why what was to be written isn't kept: for the fault of what was written, or as writing or
--- keeping has failed, which this fault tells where it isn't want of memory.
-abbrev pub IsUncommitted : World → Result ℕ Unwritten → Fault → Fault → Type 0
-IsUncommitted world (Err (unwritten.Fault fault)) failure told = told ≡ fault
-IsUncommitted world written failure told = (told ≡ Memory) ⊎ ((told ≡ failure) × MayFail world)
+-- writing or keeping it has failed, which this fault tells, or there is no memory
+abbrev pub IsUnwritten : World → Fault → Fault → Type 0
+IsUnwritten world failure told = (told ≡ Memory) ⊎ ((told ≡ failure) × MayFail world)
 
--- why a file wasn't made, and how many outputs were created
+-- Why what was to be written isn't kept: for the fault of what was written; or as writing or keeping
+-- has failed; or, where all was written, as the output isn't created.
+abbrev pub IsUncommitted : World → Output → Result ℕ Unwritten → Fault → Fault → Type 0
+IsUncommitted world output (Ok count) failure told =
+    IsUncreated world output told ⊎ IsUnwritten world failure told
+IsUncommitted world output (Err (unwritten.Fault fault)) failure told = told ≡ fault
+IsUncommitted world output (Err unwritten.Writing) failure told = IsUnwritten world failure told
+
+-- why a file wasn't made of some bytes, and how many outputs were asked for
 abbrev pub IsUnkept : World → World → Output → Fault → Fault → Type 0
 IsUnkept old new output failure told =
-    (IsUncreated old output told × (new.created ≡ old.created))
-    ⊎ (((told ≡ Memory) ⊎ ((told ≡ failure) × MayFail old)) × (new.created ≡ one_more old.created))
+    ((told ≡ Memory) × (new.created ≡ old.created))
+    ⊎ (IsUncommitted old output (Ok 0) failure told × (new.created ≡ one_more old.created))
+
+-- what was read for it has changed
+abbrev pub IsUnwrittenAgain : World → List ℕ → Unwritten → Type 0
+IsUnwrittenAgain world name (unwritten.Fault fault) = HasChanged world name fault
+IsUnwrittenAgain world name unwritten.Writing = ⊥

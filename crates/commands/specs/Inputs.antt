@@ -84,6 +84,7 @@ IsUnread world (ASession name) (Frame FrameIo) = MayFail world
 IsUnread world (ASession name) (Frame NoFrameMemory) = ⊤
 IsUnread world (ASession name) (Frame (NoSuchPlace place)) = ⊥
 IsUnread world (ASession name) (Frame fault) = Holds world.files name (StopsAt fault)
+IsUnread world (ACertificate name) (File read) = (read.now ≡ name) × (MayFail world)
 IsUnread world (ACertificate name) (NoCertificate CertificateIo) = MayFail world
 IsUnread world (ACertificate name) (NoCertificate NoCertMemory) = ⊤
 IsUnread world (ACertificate name) (NoCertificate OtherIdentity) = ⊥
@@ -93,13 +94,6 @@ IsUnread world (APlaces name) (File read) = (read.now ≡ name) × (MayFail worl
 IsUnread world (APlaces name) (NoPlace count) =
     Holds world.files name (λ bytes. (word : List ℕ) × IsFirstWrong (words_of bytes) count word)
 IsUnread world input fault = IsUnopened world (name_of input) fault
-
--- one doesn't open, and those before it are there
-abbrev pub IsFirstUnopened : World → List Input → Fault → Type 0
-IsFirstUnopened world [] fault = ⊥
-IsFirstUnopened world (input ∷ inputs) fault =
-    IsUnopened world (name_of input) fault
-    ⊎ (Holds world.files (name_of input) (λ bytes. ⊤) × IsFirstUnopened world inputs fault)
 
 -- one gives no value, and those before it do
 abbrev pub IsFirstUnread : World → List Input → Fault → Type 0

@@ -1,5 +1,5 @@
 -- What a command does.
-use Rattle.std.specs.Prelude.{◌≡◌, ◌⊎◌, ℕ, true, List, [], Option, Some, None, ⊤}
+use Rattle.std.specs.Prelude.{◌≡◌, ◌⊎◌, ℕ, true, List, [], Option, Some, None, ⊤, take}
 use Rattle.std.specs.Io.KnownBytes.{Appends}
 use Rattle.partition.specs.Fti.{Fti}
 use Rattle.session.specs.Frames.{IsFramed}
@@ -15,7 +15,7 @@ use Rattle.request.specs.declared.requests.Request.TheVariants.{Drop, Join}
 use Rattle.host.specs.World.{Files, World, Holds, IsFree, IsToStay, MayFail, Replaces, one_more}
 use Rattle.commands.specs.Inputs.{AStream, Value, Opened, HasValue, HaveValues, AreThere}
 use Rattle.commands.specs.Inputs.{IsUnopened}
-use Rattle.commands.specs.Inputs.{IsFirstUnopened, IsFirstUnread}
+use Rattle.commands.specs.Inputs.{IsFirstUnread}
 use Rattle.commands.specs.Lines.{TellsFault}
 use Rattle.commands.specs.Following.{IsHeardInPart, BringsCarrier}
 use Rattle.commands.specs.Commands.{inputs_of, place_inputs, output_of, IsWriteFault, Outcome}
@@ -23,7 +23,7 @@ use Rattle.commands.specs.Commands.{AreReadAs, Gives, told_before, Refuses}
 use Rattle.commands.specs.declared.fault.Fault.{Fault}
 use Rattle.commands.specs.declared.fault.Fault.TheVariants.{Open, Memory}
 
--- the output's bytes stand under its name, and one output was created; or there is none, and
+-- the output's bytes stand under its name, and one output was asked for; or there is none, and
 -- nothing has changed
 abbrev pub IsOutput : World → World → Option Output → Option (List ℕ) → Type 0
 IsOutput old new (Some output) (Some bytes) =
@@ -43,10 +43,10 @@ GivesOutput files r =
     (values : List Value) × (outcome : Outcome) × (bytes : List ℕ)
     × HaveValues files (inputs_of r) values × Gives r values outcome × (outcome.output ≡ Some bytes)
 
--- Whether an output may be created before a fault: of an object, once datagrams leave nothing out,
--- or, of datagrams that are followed, once a carrier came; of a picture, where the answer is yes;
--- of a session without some places, once it is there and the file of places is read; else once all
--- inputs are there.
+-- Whether an output may be asked for before a fault: for an object, once datagrams leave nothing
+-- out, or, for datagrams that are followed, once a carrier came; for a picture, where the answer is
+-- yes; for a session without some places, once it is there and the file of places is read; for
+-- sessions that are joined, once the first is there; else once all inputs are there.
 abbrev pub MayCreate : Option Files → Request → Type 0
 MayCreate files (Check r) = GivesOutput files (Check r)
 MayCreate files (Show r) = ⊥
@@ -58,20 +58,22 @@ MayCreate files (Follow r) =
     Holds files r.session.now (λ bytes. BringsCarrier r.identity (Some bytes))
 MayCreate files (Drop r) = Holds files r.session.now (λ bytes. ⊤)
     × ((values : List Value) × HaveValues files (place_inputs r.places_file) values)
+MayCreate files (Join r) = AreThere files (take 1 (inputs_of (Join r)))
 MayCreate files r = AreThere files (inputs_of r)
 
+-- none was asked for, or one, as it may be
+abbrev pub MayHaveCreated : World → World → Request → Type 0
+MayHaveCreated old new r = (new.created ≡ old.created)
+    ⊎ ((new.created ≡ one_more old.created) × MayCreate old.files r)
+
 -- What was made of an output's bytes. An object is written while its symbols come or are looked at:
--- where they turn out to be too few or of none, its output may have been created, and is given up.
+-- where they turn out to be too few or of none, its output may have been asked for, and is given
+-- up.
 abbrev pub IsMade : World → World → Request → Option (List ℕ) → Type 0
-IsMade old new (Decode r) None = (new.files ≡ old.files)
-    × ((new.created ≡ old.created)
-    ⊎ ((new.created ≡ one_more old.created) × MayCreate old.files (Decode r)
-    × IsFree old.files r.output.name.now r.output.no_clobber))
-IsMade old new (Follow r) None = (new.files ≡ old.files)
-    × ((new.created ≡ old.created)
-    ⊎ ((new.created ≡ one_more old.created) × MayCreate old.files (Follow r)
-    × IsFree old.files r.output.name.now r.output.no_clobber))
-IsMade old new r output = IsOutput old new (output_of r) output
+IsMade old new r (Some bytes) = IsOutput old new (output_of r) (Some bytes)
+IsMade old new (Decode r) None = (new.files ≡ old.files) × MayHaveCreated old new (Decode r)
+IsMade old new (Follow r) None = (new.files ≡ old.files) × MayHaveCreated old new (Follow r)
+IsMade old new r None = IsOutput old new (output_of r) None
 
 -- What the inputs give was done, but for what is printed.
 pub record Makes (old new : World) (r : Request) (outcome : Outcome) : Type 0 where
@@ -89,28 +91,24 @@ pub record IsDone (old new : World) (r : Request) (status : ℕ) : Type 0 where
 
 -- ---- faults
 
--- The first input that can't be had, in their order. A session that is shown is only opened: what
--- can't be read of it is told behind the lines of what was (`Refuses`). Sessions that are joined
--- are opened before one is read. A session whose datagrams are dropped is opened before the file of
--- places is read, and read behind it.
+-- The first input that can't be had, in their order; of a session that is shown `Refuses` tells. A
+-- session whose datagrams are dropped is opened before the file of places is read, and read behind
+-- it.
 abbrev pub IsUnhad : World → Request → Fault → Type 0
-IsUnhad world (Join r) fault =
-    IsFirstUnopened world (inputs_of (Join r)) fault
-    ⊎ (AreThere world.files (inputs_of (Join r)) × IsFirstUnread world (inputs_of (Join r)) fault)
 IsUnhad world (Drop r) fault =
     IsUnopened world r.session.now fault
     ⊎ (Holds world.files r.session.now (λ bytes. ⊤)
     × IsFirstUnread world (inputs_of (Drop r)) fault)
-IsUnhad world (Show r) fault = IsUnopened world r.session.now fault
+IsUnhad world (Show r) fault = ⊥
 IsUnhad world r fault = IsFirstUnread world (inputs_of r) fault
 
--- The output isn't created, where it may be: a file is there that is to stay, or the host may fail.
--- Or it was, and writing it has failed, where the host may fail.
+-- The output can't be created, as a file is there that is to stay, or the host may fail: that is
+-- told only where the inputs give its bytes. Or writing it has failed, where the host may fail.
 abbrev pub IsUnmade : World → World → Request → Fault → Type 0
 IsUnmade old new r (Open name) =
     (output : Output) × (output_of r ≡ Some output) × (name.now ≡ output.name.now)
     × (MayFail old ⊎ IsToStay old.files output.name.now output.no_clobber)
-    × MayCreate old.files r × (new.created ≡ old.created)
+    × GivesOutput old.files r × (new.created ≡ one_more old.created)
 IsUnmade old new r fault = MayFail old × IsWriteFault r fault × (new.created ≡ one_more old.created)
 
 -- Why the request wasn't done, by what was printed before: an input can't be had; or the request is
@@ -138,16 +136,14 @@ pub record IsStopped (old new : World) (r : Request) (text : List ℕ) (fault : 
   pub because : IsBecause old new r text fault
   pub before : BeginsText old.files r text
   pub files : new.files ≡ old.files
-  pub created : (new.created ≡ old.created)
-      ⊎ ((new.created ≡ one_more old.created) × MayCreate old.files r)
+  pub created : MayHaveCreated old new r
 
--- an object isn't there, though the output for what was received was created
+-- an object isn't there, though the output for what was received was asked for
 abbrev pub IsGivenUp : World → World → Request → Type 0
-IsGivenUp old new (Follow r) = (new.files ≡ old.files) × (new.created ≡ one_more old.created)
-    × MayCreate old.files (Follow r) × IsFree old.files r.output.name.now r.output.no_clobber
+IsGivenUp old new (Follow r) = (new.files ≡ old.files) × MayHaveCreated old new (Follow r)
 IsGivenUp old new r = ⊥
 
--- Printing has failed: nothing was done, or all but what is printed; or an output was created for
+-- Printing has failed: nothing was done, or all but what is printed; or an output was asked for, for
 -- what was received, and no object is there, which can't be told.
 pub record IsUnprinted (old new : World) (r : Request) : Type 0 where
   pub failed : new.failed ≡ true

@@ -1,8 +1,10 @@
 -- Why no more was read of an input that was opened.
 use Rattle.std.specs.Prelude.{◌≡◌, ◌≢◌, ◌⊎◌, ℕ, Bool, false, List, length, Option, ⊤, IfSome}
 use Rattle.partition.specs.Fti.{Fti}
-use Rattle.session.specs.Frames.{IsReadFault}
+use Rattle.session.specs.Frames.{IsReadFault, StopsAt}
+use Rattle.session.specs.declared.frame.FrameFault.TheVariants.{Io as FrameIo, NoSuchPlace}
 use Rattle.session.specs.declared.frame.FrameFault.TheVariants.{NoMemory as NoFrameMemory}
+use Rattle.host.specs.World.{World, MayFail}
 use Rattle.commands.specs.declared.fault.Fault.{Fault}
 use Rattle.commands.specs.declared.fault.Fault.TheVariants.{File, Frame, Memory}
 
@@ -25,3 +27,18 @@ IsFrameUnread old new failed (Frame NoFrameMemory) = ⊥
 IsFrameUnread old new failed (Frame fault) = IsReadFault fault old new failed
 IsFrameUnread old new failed Memory = ⊤
 IsFrameUnread old new failed fault = ⊥
+
+-- Why a file isn't gone over to its end, all frames: what stands there is none, or the file has
+-- failed, or there is no memory.
+abbrev pub IsUnframed : Option (List ℕ) → Bool → Fault → Type 0
+IsUnframed content reliable (Frame FrameIo) = reliable ≡ false
+IsUnframed content reliable (Frame NoFrameMemory) = ⊤
+IsUnframed content reliable (Frame (NoSuchPlace place)) = ⊥
+IsUnframed content reliable (Frame fault) = IfSome content (StopsAt fault)
+IsUnframed content reliable Memory = ⊤
+IsUnframed content reliable fault = ⊥
+
+-- the file of this name isn't as it was when it was opened, which is so only where the host may fail
+abbrev pub HasChanged : World → List ℕ → Fault → Type 0
+HasChanged world name (File read) = (read.now ≡ name) × (MayFail world)
+HasChanged world name fault = ⊥

@@ -6,7 +6,7 @@ ghost use Rattle.host.specs.World.{GivesFile};
 ghost use Rattle.commands.specs.Inputs.{AnObject, ASession, ACertificate, APlaces, Bytes};
 ghost use Rattle.commands.specs.Inputs.{Datagrams};
 ghost use Rattle.commands.specs.Inputs.{Polynomials, Places, HasValue, IsUnopened, IsUnread};
-ghost use Rattle.commands.specs.ReadingInputs.{IsFrameUnread, IsRestUnread};
+ghost use Rattle.commands.specs.ReadingInputs.{HasChanged, IsFrameUnread, IsRestUnread};
 ghost use Rattle.commands.specs.declared.fault.Fault.TheVariants.{Frame};
 
 use crate::fault::Fault;
@@ -28,6 +28,21 @@ pub fn open<'a, H: Host>(host: &H, name: &'a str) -> Result<H::Input, Fault<'a>>
         Ok(input) => Ok(input),
         Err(FileFault::Io) => Err(Fault::Open(name)),
         Err(FileFault::NoMemory) => Err(Fault::Memory),
+    }
+}
+
+/// Fails where the file that was opened under this name isn't as it was then.
+pub fn see_unchanged<'a, H: Host>(
+    host: &H,
+    name: &'a str,
+    input: &H::Input,
+) -> Result<(), Fault<'a>>
+    ensures { IfErr result (HasChanged (H.world host.now) name.now) }
+{
+    if host.is_unchanged(input) {
+        Ok(())
+    } else {
+        Err(Fault::File(name))
     }
 }
 

@@ -1,6 +1,6 @@
 //! What the commands share: what each of them reads, gives and prints, and why it may not.
 //!
-//! - `input`, `output`: files that are read, and files that are made.
+//! - `input`, `frames`, `output`: files that are read, a session's frames, and files that are made.
 //! - `print`, `wording`: lines, and the words of faults.
 //! - `done`, `telling`: what a command has done, and how it is told.
 //! - `fault`: why one wasn't done.
@@ -9,6 +9,7 @@
 
 mod done;
 mod fault;
+mod frames;
 mod input;
 mod output;
 mod print;
@@ -18,11 +19,12 @@ mod wording;
 
 pub use done::{Done, Told};
 pub use fault::{Fault, Stop};
+pub use frames::pass_frames;
 pub use input::{
     certificate_in, next_datagram, object_in, open, read_certificate, read_object, read_places,
-    read_rest, session_in,
+    read_rest, see_unchanged, session_in,
 };
-pub use output::{Unwritten, commit, create, write_output};
+pub use output::{Unwritten, commit, if_unchanged, write_output};
 pub use print::{Text, print_count};
 pub use sizes::fti_of;
 pub use telling::finish;

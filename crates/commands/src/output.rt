@@ -1,14 +1,16 @@
 //! Output files.
-ghost use Rattle.std.specs.Prelude.{◌≡◌, [], Ok, IfOk, IfErr, IfSome, OnOk, OnErr};
-ghost use Rattle.host.specs.World.{IsBlank, IsFree, Replaces, IsSilent, one_more};
-ghost use Rattle.commands.specs.Doing.{IsUncreated, IsUncommitted, IsUnkept};
+ghost use Rattle.std.specs.Prelude.{◌≡◌, ◌⊎◌, Ok, Err, IfOk, IfErr, IfSome, OnOk, OnErr};
+ghost use Rattle.host.specs.World.{IsFree, Replaces, IsSilent, one_more};
+ghost use Rattle.commands.specs.Doing.{IsUncommitted, IsUnkept, IsUnwrittenAgain};
 
 use crate::fault::Fault;
-use host::{FileFault, Host};
+use crate::input::see_unchanged;
+use host::{FileFault, Host, KeepFault};
 use request::Output;
 use session::write_all;
 
 /// Why a file wasn't written to its end.
+#[derive(Drop)]
 pub enum Unwritten<'a> {
     /// Writing has failed.
     Writing,
@@ -16,50 +18,54 @@ pub enum Unwritten<'a> {
     Fault(Fault<'a>),
 }
 
-/// Creates what is to be a file.
-pub fn create<'a, H: Host>(host: &mut H, output: &Output<'a>) -> Result<H::Output, Fault<'a>>
-    ensures blank { IfOk result (λ file.
-        IsBlank (H.world host.old) (H.Output.contents file)) }
-    ensures empty { IfOk result (λ file.
-        IfSome (H.Output.contents file) (λ bytes. bytes ≡ [])) }
-    ensures free { OnOk result
-        (IsFree (H.world host.old).files output.now.name.now output.now.no_clobber) }
-    ensures fault { IfErr result (IsUncreated (H.world host.old) output.now) }
-    ensures files { (H.world host.new).files ≡ (H.world host.old).files }
-    ensures silent { IsSilent (H.world host.old) (H.world host.new) }
-    ensures created { OnOk result
-        ((H.world host.new).created ≡ one_more (H.world host.old).created) }
-    ensures none { OnErr result ((H.world host.new).created ≡ (H.world host.old).created) }
+/// What was written of a file that was opened under this name, if there is one, and is as it was
+/// then.
+pub fn if_unchanged<'a, T: Drop, H: Host>(
+    host: &H,
+    name: &'a str,
+    source: Option<&H::Input>,
+    written: Result<T, Unwritten<'a>>,
+) -> Result<T, Unwritten<'a>>
+    ensures ok { OnOk result (result ≡ written.entry) }
+    ensures fault { IfErr result (λ e. (written.entry ≡ Err e)
+        ⊎ IsUnwrittenAgain (H.world host.now) name.now e) }
 {
-    match host.create_file(output.name, output.no_clobber) {
-        Ok(file) => Ok(file),
-        Err(FileFault::Io) => Err(Fault::Open(output.name)),
-        Err(FileFault::NoMemory) => Err(Fault::Memory),
+    let written = written?;
+    if let Some(input) = source {
+        if let Err(fault) = see_unchanged(host, name, input) {
+            return Err(Unwritten::Fault(fault));
+        }
     }
+    Ok(written)
 }
 
-/// Keeps what was written under its name, or gives it up where it wasn't written to its end.
-/// `failure` tells that writing or keeping has failed, where it isn't for want of memory.
+/// Keeps what was written under its output's name, or gives it up where it wasn't written to its
+/// end. That the output can't be created is told where all was written. `failure` tells that writing
+/// or keeping has failed, where it isn't for want of memory.
 pub fn commit<'a, H: Host>(
     host: &mut H,
-    name: &str,
+    output: &Output<'a>,
     file: H::Output,
     written: Result<u64, Unwritten<'a>>,
     failure: Fault<'a>,
 ) -> Result<u64, Fault<'a>>
     ensures count { IfOk result (λ count. written.entry ≡ Ok count) }
     ensures kept { OnOk result (IfSome (H.Output.contents file)
-        (Replaces (H.world host.old).files (H.world host.new).files name.now)) }
-    ensures fault { IfErr result (IsUncommitted (H.world host.old) written.entry failure.entry) }
+        (Replaces (H.world host.old).files (H.world host.new).files output.now.name.now)) }
+    ensures free { OnOk result
+        (IsFree (H.world host.old).files output.now.name.now output.now.no_clobber) }
+    ensures fault { IfErr result
+        (IsUncommitted (H.world host.old) output.now written.entry failure.entry) }
     ensures files { OnErr result ((H.world host.new).files ≡ (H.world host.old).files) }
     ensures silent { IsSilent (H.world host.old) (H.world host.new) }
     ensures created { (H.world host.new).created ≡ (H.world host.old).created }
 {
     match written {
-        Ok(count) => match host.keep_file(name, file) {
+        Ok(count) => match host.keep_file(output.name, output.no_clobber, file) {
             Ok(()) => Ok(count),
-            Err(FileFault::Io) => Err(failure),
-            Err(FileFault::NoMemory) => Err(Fault::Memory),
+            Err(KeepFault::Uncreated) => Err(Fault::Open(output.name)),
+            Err(KeepFault::Io) => Err(failure),
+            Err(KeepFault::NoMemory) => Err(Fault::Memory),
         },
         Err(Unwritten::Fault(fault)) => {
             host.give_up(file);
@@ -90,11 +96,11 @@ pub fn write_output<'a, H: Host>(
     ensures created { OnOk result
         ((H.world host.new).created ≡ one_more (H.world host.old).created) }
 {
-    let mut file = create(host, output)?;
+    let mut file = host.create_file(output.name, output.no_clobber)?;
     let written = match write_all(&mut file, bytes) {
         Ok(()) => Ok(bytes.len() as u64),
         Err(_) => Err(Unwritten::Writing),
     };
-    commit(host, output.name, file, written, failure)?;
+    commit(host, output, file, written, failure)?;
     Ok(())
 }

@@ -5,13 +5,15 @@ use Rattle.std.specs.Str.{bytes_eq}
 use Rattle.std.specs.Option.{option_map}
 use Rattle.host.specs.declared.host.FileFault.{FileFault}
 use Rattle.host.specs.declared.host.FileFault.TheVariants.{Io, NoMemory}
+use Rattle.host.specs.declared.host.KeepFault.{KeepFault}
+use Rattle.host.specs.declared.host.KeepFault.TheVariants as keep
 
 -- what each name stands for, if it does
 abbrev pub Files : Type 0
 Files = List ℕ → Option (List ℕ)
 
 -- What each name stands for, where it is told; whether a call may fail but for want of memory; what
--- was printed, where it is told, and whether printing has failed; how many outputs were created,
+-- was printed, where it is told, and whether printing has failed; how many outputs were asked for,
 -- where it is told.
 pub record World : Type 0 where
   pub files : Option Files
@@ -53,7 +55,7 @@ pub record GivesFile (world : World) (name : List ℕ) (remaining : Option (List
 abbrev pub LeavesBytes : Option (List ℕ) → ℕ → Type 0
 LeavesBytes remaining count = IfSome remaining (λ bytes. length bytes ≡ count)
 
--- an output that was created holds nothing, where files are told
+-- a new output holds nothing, where files are told
 abbrev pub IsBlank : World → Option (List ℕ) → Type 0
 IsBlank world contents = IfSome world.files (λ held. contents ≡ Some [])
 
@@ -76,11 +78,13 @@ abbrev pub IsToStay : Option Files → List ℕ → Bool → Type 0
 IsToStay files name no_clobber =
     (no_clobber ≡ true) × IfSome files (λ held. IsSome (held name))
 
--- why an output isn't created: a file is there that is to stay, or the host may fail, or there is
--- no memory
-abbrev pub IsTaken : World → List ℕ → Bool → FileFault → Type 0
-IsTaken world name no_clobber Io = MayFail world ⊎ IsToStay world.files name no_clobber
-IsTaken world name no_clobber NoMemory = ⊤
+-- why what was written isn't kept: its file couldn't be created, as one is there that is to stay, or
+-- the host may fail; or writing or keeping has failed, as the host may; or there is no memory
+abbrev pub IsKeepFault : World → List ℕ → Bool → KeepFault → Type 0
+IsKeepFault world name no_clobber keep.Uncreated =
+    MayFail world ⊎ IsToStay world.files name no_clobber
+IsKeepFault world name no_clobber keep.Io = MayFail world
+IsKeepFault world name no_clobber keep.NoMemory = ⊤
 
 -- files and outputs are as before, and so is whether the host may fail
 pub record KeepsFiles (old new : World) : Type 0 where

@@ -1,16 +1,28 @@
 //! What a command meets outside.
-ghost use Rattle.std.specs.Prelude.{◌≡◌, [], true, IfOk, IfErr, IfSome, OnOk, OnErr};
+ghost use Rattle.std.specs.Prelude.{◌≡◌, [], None, true, false, IfOk, IfErr, IfSome, OnOk, OnErr};
 ghost use Rattle.std.specs.Io.KnownBytes.{Appends};
 ghost use Rattle.host.specs.World.{World, GivesFile, LeavesBytes, IsBlank, Replaces, IsRefused};
-ghost use Rattle.host.specs.World.{IsMissing, IsFree, IsTaken, KeepsFiles, IsSilent, one_more};
+ghost use Rattle.host.specs.World.{IsMissing, IsFree, IsKeepFault, KeepsFiles, IsSilent, MayFail};
+ghost use Rattle.host.specs.World.{one_more};
 
 use session::{Failed, Read};
+use std::alloc::AllocError;
 use streams::{ReadAt, WriteAt};
 
 /// Why a host refused a file.
 #[derive(Debug, Clone, Copy, PartialEq, Eq)]
 pub enum FileFault {
-    /// The file can't be opened, created, written or kept.
+    /// The file can't be opened or written.
+    Io,
+    NoMemory,
+}
+
+/// Why what was written isn't a file.
+#[derive(Debug, Clone, Copy, PartialEq, Eq)]
+pub enum KeepFault {
+    /// The file couldn't be created, so nothing of what was written is anywhere.
+    Uncreated,
+    /// Writing or keeping has failed.
     Io,
     NoMemory,
 }
@@ -35,32 +47,44 @@ pub trait Host {
             (Self.Input.content file) (Self.Input.reliable file)) }
         ensures fault { IfErr result (IsMissing (world self.now) name.now) };
 
-    /// How many bytes an input has left, where that is known before they are read. What has a known
-    /// length can be read at any offset.
+    /// How many bytes an input has left, where that is known before they are read, as it is where
+    /// files are told. What has a known length can be read at any offset.
     fn length_of(&self, input: &Self::Input) -> Option<u64>
-        ensures { IfSome result (LeavesBytes (Self.Input.remaining input.now)) };
+        ensures length { IfSome result (LeavesBytes (Self.Input.remaining input.now)) }
+        ensures none { result ≡ None → (world self.now).files ≡ None };
 
-    /// Creates what is to be the file of this name. With `no_clobber` it does so only where none is
-    /// there. `Io` comes only where a file is there that stays, or the host may fail.
-    fn create_file(&mut self, name: &str, no_clobber: bool) -> Result<Self::Output, FileFault>
+    /// Whether the file of an input is as it was when it was opened, as far as that can be seen.
+    /// `false` comes only where the host may fail.
+    fn is_unchanged(&self, input: &Self::Input) -> bool
+        ensures { result ≡ false → MayFail (world self.now) };
+
+    /// Begins what is to be the file of this name. With `no_clobber` it may be one only where none
+    /// is there. Where it can't be created, what is written goes nowhere, and `keep_file` tells.
+    /// So whatever else is wrong is found first.
+    fn create_file(&mut self, name: &str, no_clobber: bool) -> Result<Self::Output, AllocError>
         ensures blank { IfOk result (λ file.
             IsBlank (world self.old) (Self.Output.contents file)) }
         ensures empty { IfOk result (λ file.
             IfSome (Self.Output.contents file) (λ bytes. bytes ≡ [])) }
-        ensures free { OnOk result (IsFree (world self.old).files name.now no_clobber) }
-        ensures fault { IfErr result (IsTaken (world self.old) name.now no_clobber) }
         ensures files { (world self.new).files ≡ (world self.old).files }
         ensures silent { IsSilent (world self.old) (world self.new) }
         ensures created { OnOk result
             ((world self.new).created ≡ one_more (world self.old).created) }
         ensures none { OnErr result ((world self.new).created ≡ (world self.old).created) };
 
-    /// Puts what was written under its name, in the place of the file that was there. `Io` comes
-    /// only where the host may fail; after a fault the files are as they were.
-    fn keep_file(&mut self, name: &str, output: Self::Output) -> Result<(), FileFault>
+    /// Puts what was written under its name, in the place of the file that was there. `Uncreated`
+    /// comes only where a file is there that stays, or the host may fail, and `Io` only where it
+    /// may; after a fault the files are as they were.
+    fn keep_file(
+        &mut self,
+        name: &str,
+        no_clobber: bool,
+        output: Self::Output,
+    ) -> Result<(), KeepFault>
         ensures kept { OnOk result (IfSome (Self.Output.contents output)
             (Replaces (world self.old).files (world self.new).files name.now)) }
-        ensures fault { IfErr result (IsRefused (world self.old)) }
+        ensures free { OnOk result (IsFree (world self.old).files name.now no_clobber) }
+        ensures fault { IfErr result (IsKeepFault (world self.old) name.now no_clobber) }
         ensures files { OnErr result ((world self.new).files ≡ (world self.old).files) }
         ensures silent { IsSilent (world self.old) (world self.new) }
         ensures created { (world self.new).created ≡ (world self.old).created };

@@ -8,5 +8,5 @@
 mod host;
 mod memory;
 
-pub use host::{FileFault, Host};
+pub use host::{FileFault, Host, KeepFault};
 pub use memory::{MemoryHost, MemoryInput};

@@ -5,7 +5,7 @@ ghost use Rattle.std.specs.Option.{option_map};
 ghost use Rattle.host.specs.Files.{files_of, AddsFile};
 ghost use Rattle.host.specs.Worlds.{memory_world};
 
-use crate::host::{FileFault, Host};
+use crate::host::{FileFault, Host, KeepFault};
 use lists::are_bytes;
 use session::{Failed, Read, Sink, write_all};
 use std::alloc::{AllocError, Global};
@@ -125,7 +125,7 @@ impl MemoryHost {
         self.out.bytes()
     }
 
-    /// How many outputs were created.
+    /// How many outputs were asked for.
     pub fn created(&self) -> u64
         ensures { result ≡ self.now.created }
     {
@@ -159,21 +159,26 @@ impl Host for MemoryHost {
         Some((input.bytes.len() - input.at) as u64)
     }
 
-    fn create_file(&mut self, name: &str, no_clobber: bool) -> Result<Sink, FileFault> {
-        if no_clobber && self.get(name).is_some() {
-            return Err(FileFault::Io);
-        }
+    /// Nobody else changes these files.
+    fn is_unchanged(&self, _input: &MemoryInput) -> bool {
+        true
+    }
+
+    fn create_file(&mut self, _name: &str, _no_clobber: bool) -> Result<Sink, AllocError> {
         let Some(created) = self.created.checked_add(1) else {
-            return Err(FileFault::NoMemory);
+            return Err(AllocError);
         };
         self.created = created;
         Ok(Sink::new(self.alloc))
     }
 
-    fn keep_file(&mut self, name: &str, output: Sink) -> Result<(), FileFault> {
+    fn keep_file(&mut self, name: &str, no_clobber: bool, output: Sink) -> Result<(), KeepFault> {
+        if no_clobber && self.get(name).is_some() {
+            return Err(KeepFault::Uncreated);
+        }
         match self.put(name, output.into_bytes()) {
             Ok(()) => Ok(()),
-            Err(_) => Err(FileFault::NoMemory),
+            Err(_) => Err(KeepFault::NoMemory),
         }
     }
 

@@ -29,15 +29,17 @@ use Rattle.host.specs.World.{Files, GivesFile, Holds, IsFree, IsSilent, KeepsFil
 use Rattle.commands.specs.Inputs.{ASession, Opened, HasValue, IsUnread}
 use Rattle.commands.specs.Lines.{line_of, count_line, answer_text}
 use Rattle.commands.specs.Commands.{answer_status, object_of, IsAnswerIn}
-use Rattle.commands.specs.Outcomes.{MayCreate, IsBecause}
-use Rattle.commands.specs.Doing.{HasMade, HasStopped, text_of}
+use Rattle.commands.specs.Outcomes.{GivesOutput, MayCreate, MayHaveCreated, IsBecause}
+use Rattle.commands.specs.ReadingInputs.{HasChanged}
+use Rattle.receive_commands.proofs.Showed.{changed_unread}
+use Rattle.commands.specs.Doing.{HasMade, HasStopped, IsUnwrittenAgain, text_of}
 use Rattle.receive_commands.specs.Decoding.{IsToldOf, IsWriteBroken}
 use Rattle.commands.specs.declared.done.Done.{Done}
 use Rattle.commands.specs.declared.fault.Fault as told
 use Rattle.commands.specs.declared.fault.Fault.TheVariants as told_as
 use Rattle.commands.specs.declared.output.Unwritten.{Unwritten}
 use Rattle.commands.specs.declared.output.Unwritten.TheVariants as unwritten
-use Rattle.commands.proofs.Stopping.{by_unread}
+use Rattle.commands.proofs.Stopping.{by_unread, may_fail}
 use Rattle.commands.proofs.Holding.{holds_told}
 
 -- an answer that is no object has no bytes
@@ -77,7 +79,7 @@ module _ (w : World) (name : Bor (List ℕ)) (content : Option (List ℕ)) (reli
 
 module _ (old new : World) (r : DecodeRequest) (content : Option (List ℕ)) (held : HasValue old.files (ASession r.session.now) (Opened content)) (silent : new.printed ≡ old.printed) where
   pub none_decoded : (answer : Answer) → IsAnswerIn r.identity content (answer_value answer) → IsNoObject answer → new.files ≡ old.files
-      → (new.created ≡ old.created) ⊎ ((new.created ≡ one_more old.created) × MayCreate old.files (Decode r) × IsFree old.files r.output.name.now r.output.no_clobber) → (done : Done) → IsToldOf (answer_value answer) done → HasMade old new (Decode r) done
+      → MayHaveCreated old new (Decode r) → (done : Done) → IsToldOf (answer_value answer) done → HasMade old new (Decode r) done
   none_decoded answer is none files created done told = record {
     outcome = record { text = line_of (answer_text (answer_value answer)); status = answer_status (answer_value answer); output = None };
     makes = record {
@@ -154,6 +156,60 @@ delivered old new mid r (Some x) s blank contents count given silent placed writ
     let is : IsAnswerIn r.identity (Some x) (value.Object w.0) = (placed.0, placed.1.framed, w.1) in
     object_decoded old new r (Some x) (session_held old.files r.session.now (Some x) r.identity (value.Object w.0) given is) silent w.0 count is w.3
     (kept_whole old.files mid new.files r.output.name.now w.0 blank contents empty w.2 same kept) created free done text status
+
+-- what was written is an object's bytes
+pub object_given : (files : Option Files) (r : DecodeRequest) (content : Option (List ℕ)) (s : FileSymbols) (blank contents : Option (List ℕ)) (count : ℕ)
+    → Holds files r.session.now (λ bytes. content ≡ Some bytes) → Placed r.identity content s
+    → ((ds : List (List ℕ)) (x : List ℕ) → content ≡ Some x → ArePlacedOf r.identity ds x s → IsWrittenOf r.identity ds blank contents count) → GivesOutput files (Decode r)
+object_given files r None s blank contents count given placed written = (
+  Opened None ∷ [],
+  record { text = line_of (answer_text (value.Object [])); status = 0; output = Some [] },
+  [],
+  (session_held files r.session.now None r.identity (value.Object []) given tt, tt),
+  (value.Object [], tt, (refl, refl, refl)),
+  refl,
+)
+object_given files r (Some x) s blank contents count given placed written =
+    let w = written placed.0 x refl placed.1 in
+    let is : IsAnswerIn r.identity (Some x) (value.Object w.0) = (placed.0, placed.1.framed, w.1) in (
+      Opened (Some x) ∷ [],
+      record { text = line_of (answer_text (value.Object w.0)); status = 0; output = Some w.0 },
+      w.0,
+      (session_held files r.session.now (Some x) r.identity (value.Object w.0) given is, tt),
+      (value.Object w.0, is, (refl, refl, refl)),
+      refl,
+    )
+
+-- why it isn't, also where the file has changed
+pub because_changed : (old new : World) (r : DecodeRequest) (f : told.Fault) → HasChanged old r.session.now f → IsBecause old new (Decode r) [] f
+because_changed old new r f why = by_unread old new (Decode r) [] f (inl (changed_unread old r.session.now f why))
+
+abbrev pub equal : Result ℕ Unwritten → Result ℕ Unwritten → Type 0
+equal a b = a ≡ b
+
+abbrev pub same_err : Unwritten → told.Fault → Type 0
+same_err e f = equal (Err e) (Err (unwritten.Fault f))
+
+fault_in : (e : Unwritten) (f : told.Fault) → same_err e f → e ≡ unwritten.Fault f
+fault_in e f is = cc
+
+changed_before : (old mid : World) (name : List ℕ) (f : told.Fault) → mid.files ≡ old.files → IsSilent old mid → HasChanged mid name f → HasChanged old name f
+changed_before old mid name (told_as.File n) files silent (is, fails) = (is, may_fail old mid files silent fails)
+changed_before old mid name (told_as.Open n) files silent why = absurd why
+changed_before old mid name told_as.Memory files silent why = absurd why
+changed_before old mid name (told_as.Frame e) files silent why = absurd why
+changed_before old mid name (told_as.Certificate e) files silent why = absurd why
+changed_before old mid name (told_as.Fti e) files silent why = absurd why
+changed_before old mid name (told_as.Send e) files silent why = absurd why
+changed_before old mid name (told_as.NoPlace n) files silent why = absurd why
+
+-- why it wasn't written to its end, or that the file has changed since
+pub because_not_again : {T : Type 0} (old mid new : World) (r : DecodeRequest) → mid.files ≡ old.files → IsSilent old mid → (w : Result T Unwritten) → IfErr w (IsWriteBroken old r.session.now) → (e : Unwritten)
+    → (w ≡ Err e) ⊎ IsUnwrittenAgain mid r.session.now e → (f : told.Fault) → same_err e f → IsBecause old new (Decode r) [] f
+because_not_again {T = T} old mid new r files silent w why e (inl same) f is =
+    by_unread old new (Decode r) [] f (inl (subst (λ (u : Unwritten). IsWriteBroken old r.session.now u) (fault_in e f is) (subst (λ (x : Result T Unwritten). IfErr x (IsWriteBroken old r.session.now)) same why)))
+because_not_again old mid new r files silent w why e (inr again) f is =
+    because_changed old new r f (changed_before old mid r.session.now f files silent (subst (λ (u : Unwritten). IsUnwrittenAgain mid r.session.now u) (fault_in e f is) again))
 
 -- the symbols turned out to be of no object
 pub refuted : (who : Identity) (content : Option (List ℕ)) (s : FileSymbols) (answer : Answer) → Placed who content s

@@ -13,16 +13,16 @@ use Rattle.receiver.specs.Filed.{Stands}
 use Rattle.receiver.specs.Receiving.{LeaveNoneShort}
 use Rattle.request.specs.declared.requests.FollowRequest.{FollowRequest}
 use Rattle.request.specs.declared.requests.Request.TheVariants.{Follow}
-use Rattle.host.specs.World.{Files, World, Holds, KeepsFiles, IsSilent, MayFail, Replaces, one_more}
+use Rattle.host.specs.World.{Files, World, Holds, KeepsFiles, IsFree, IsSilent, IsToStay, MayFail, Replaces, one_more}
 use Rattle.commands.specs.Inputs.{Opened}
 use Rattle.commands.specs.Lines.{line_of, count_line, answer_text}
 use Rattle.commands.specs.Commands.{Outcome}
 use Rattle.commands.specs.Following.{IsHeard, Ends, complete_line, ends_text}
-use Rattle.commands.specs.Outcomes.{Makes, IsDone, IsBecause, IsUnprinted}
-use Rattle.commands.specs.Doing.{IsUndone}
-use Rattle.receive_commands.specs.Listening.{stopped_by, AreSaid, IsCreatedFor, IsFollowed, IsFull, IsReceived, IsWritten}
+use Rattle.commands.specs.Outcomes.{GivesOutput, Makes, IsDone, IsBecause, IsUnprinted}
+use Rattle.commands.specs.Doing.{IsUncreated, IsUndone, IsUnwritten}
+use Rattle.receive_commands.specs.Listening.{stopped_by, AreSaid, IsCreatedFor, IsFollowed, IsFull, IsReceived, IsUnkeptOf, IsWritten}
 use Rattle.commands.specs.declared.fault.Fault.{Fault}
-use Rattle.commands.specs.declared.fault.Fault.TheVariants.{File, Memory}
+use Rattle.commands.specs.declared.fault.Fault.TheVariants.{Open, File, Memory, Frame, Certificate, Fti, Send, NoPlace}
 use Rattle.receive_commands.specs.declared.follow.Followed.{Followed}
 use Rattle.receive_commands.proofs.Followed.{holds_then, opened_of, has_opened, of_opened}
 use Rattle.commands.proofs.Stopping.{by_unmade}
@@ -38,6 +38,12 @@ kept_object None before after name out n P Q same h f = (
   sym (length-replicate n 0),
 )
 kept_object (Some held) before after name out n P Q same (bytes, is, p) f = let w = f bytes p in (w.0, (bytes, is, w.1), w.2, w.3)
+
+-- the object that the bytes give, or any where no files are told
+given_object : (fs : Option Files) (name : List ℕ) (P : List ℕ → Type 0) (Q : List ℕ → List ℕ → Type 0) → Holds fs name P → ((bytes : List ℕ) → P bytes → (object : List ℕ) × Q bytes object)
+    → (object : List ℕ) × Holds fs name (λ bytes. Q bytes object)
+given_object None name P Q h f = ([], tt)
+given_object (Some held) name P Q (bytes, is, p) f = let w = f bytes p in (w.0, (bytes, is, w.1))
 
 module _ {W : Type 0} {w : Ghosts W} (r : FollowRequest) (old mid : World) (f : Followed W w) (received : IsReceived r old mid f) (b : World) (said : Bool)
     (first : AreSaid mid b (complete_line f.count) said) (all : said ≡ true → f.said ≡ true) (before : KeepsFiles mid b) where
@@ -67,34 +73,68 @@ module _ {W : Type 0} {w : Ghosts W} (r : FollowRequest) (old mid : World) (f : 
 
     -- the object isn't kept
     module _ (files : new.files ≡ b.files) where
-      because : (name : Bor (List ℕ)) → name.now ≡ r.output.name.now → (fault : Fault) → (fault ≡ Memory) ⊎ ((fault ≡ File name) × MayFail b) → IsBecause old new (Follow r) text fault
-      because name named fault (inl none) = subst (λ (x : Fault). IsBecause old new (Follow r) text x) (sym none) tt
-      because name named fault (inr (same, fails)) =
-          subst (λ (x : Fault). IsBecause old new (Follow r) text x) (sym same) (by_unmade old new (Follow r) text (File name) (may_fail fails, named, created_now))
-        where
-          may_fail : MayFail b → MayFail old
-          may_fail (inl untold) = inl (sym is.files ∙ sym before.files ∙ untold)
-          may_fail (inr fallible) = inr (sym is.fallible ∙ sym before.fallible ∙ fallible)
+      abbrev AreGiven : Fault → Type 0
+      AreGiven fault = (taken : List (List ℕ)) → Stands f.receiver taken → LeaveNoneShort f.receiver.receiving.identity taken → IsUnkeptOf f.receiver.receiving.identity taken fault
 
-      pub not_kept : (name : Bor (List ℕ)) → name.now ≡ r.output.name.now → (fault : Fault) → (fault ≡ Memory) ⊎ ((fault ≡ File name) × MayFail b)
+      may_fail : MayFail b → MayFail old
+      may_fail (inl untold) = inl (sym is.files ∙ sym before.files ∙ untold)
+      may_fail (inr fallible) = inr (sym is.fallible ∙ sym before.fallible ∙ fallible)
+
+      -- it is there, though
+      gives : (name : Bor (List ℕ)) → AreGiven (Open name) → GivesOutput old.files (Follow r)
+      gives name given =
+          let found = given_object old.files r.session.now (λ bytes. IsFull r f bytes is.lines)
+          (λ bytes object. (left : Option (List ℕ)) × (taken : List (List ℕ)) × IsHeard r.identity (Some bytes) left f.count taken is.lines × IsAnswer r.identity taken (value.Object object)
+          × Ends (value.Object object) left) is.heard
+          (λ bytes (left, taken, stands, full, heard).
+          let (object, answer) = given taken stands (subst (λ (who : Identity). LeaveNoneShort who taken) (sym is.identity) full) in
+          (object, (left, taken, heard, subst (λ (who : Identity). IsAnswer who taken (value.Object object)) is.identity answer, tt))) in (
+            Opened (opened_of old.files r.session.now) ∷ [],
+            record { text = is.lines ++ ends_text (value.Object found.0) f.count; status = 0; output = Some found.0 },
+            found.0,
+            (has_opened old.files r.session.now _ found.1, tt),
+            (f.count, is.lines, value.Object found.0, of_opened old.files r.session.now _ found.1, (refl, refl, refl)),
+            refl,
+          )
+
+      uncreated : (fault : Fault) → AreGiven fault → IsUncreated b r.output fault → IsBecause old new (Follow r) text fault
+      uncreated (Open name) given (named, inl fails) = by_unmade old new (Follow r) text (Open name) (r.output, refl, named, inl (may_fail fails), gives name given, created_now)
+      uncreated (Open name) given (named, inr stays) = by_unmade old new (Follow r) text (Open name)
+          (r.output, refl, named, inr (subst (λ (x : Option Files). IsToStay x r.output.name.now r.output.no_clobber) (before.files ∙ is.files) stays), gives name given, created_now)
+      uncreated (File n) given why = absurd why
+      uncreated Memory given why = absurd why
+      uncreated (Frame e) given why = absurd why
+      uncreated (Certificate e) given why = absurd why
+      uncreated (Fti e) given why = absurd why
+      uncreated (Send e) given why = absurd why
+      uncreated (NoPlace n) given why = absurd why
+
+      because : (name : Bor (List ℕ)) → name.now ≡ r.output.name.now → (fault : Fault) → AreGiven fault → IsUncreated b r.output fault ⊎ IsUnwritten b (File name) fault
+          → IsBecause old new (Follow r) text fault
+      because name named fault given (inl why) = uncreated fault given why
+      because name named fault given (inr (inl none)) = subst (λ (x : Fault). IsBecause old new (Follow r) text x) (sym none) tt
+      because name named fault given (inr (inr (same, fails))) =
+          subst (λ (x : Fault). IsBecause old new (Follow r) text x) (sym same) (by_unmade old new (Follow r) text (File name) (may_fail fails, named, created_now))
+
+      pub not_kept : (name : Bor (List ℕ)) → name.now ≡ r.output.name.now → (fault : Fault) → AreGiven fault → IsUncreated b r.output fault ⊎ IsUnwritten b (File name) fault
           → IsUndone old new (Follow r) (stopped_by fault said)
-      not_kept name named fault why = go said refl
+      not_kept name named fault given why = go said refl
         where
           go : (p : Bool) → said ≡ p → IsUndone old new (Follow r) (stopped_by fault p)
           go true so = (
             text,
             told_now so,
             record {
-              because = because name named fault why;
+              because = because name named fault given why;
               before = inr (holds_then old.files r.session.now _ _ (λ bytes (left, taken, stands, full, heard). (left, f.count, taken, is.lines, heard, inr (full, refl))) is.heard);
               files = files ∙ before.files ∙ is.files;
               created = inr (created_now, created_here.1);
             },
           )
-          go false so = record { failed = failed_now so; done = inr (inr (files ∙ before.files ∙ is.files, created_now, created_here.1, created_here.2)) }
+          go false so = record { failed = failed_now so; done = inr (inr (files ∙ before.files ∙ is.files, inr (created_now, created_here.1))) }
 
     -- it is
-    module _ (n : ℕ) (written : (taken : List (List ℕ)) → Stands f.receiver taken → LeaveNoneShort f.receiver.receiving.identity taken
+    module _ (free : IsFree b.files r.output.name.now r.output.no_clobber) (n : ℕ) (written : (taken : List (List ℕ)) → Stands f.receiver taken → LeaveNoneShort f.receiver.receiving.identity taken
         → IsWritten r f.receiver.receiving.identity taken b new n) where
       abbrev Gives_it : List ℕ → List ℕ → Type 0
       Gives_it bytes object = (left : Option (List ℕ)) × (taken : List (List ℕ)) × IsHeard r.identity (Some bytes) left f.count taken is.lines × IsAnswer r.identity taken (value.Object object)
@@ -118,7 +158,7 @@ module _ {W : Type 0} {w : Ghosts W} (r : FollowRequest) (old mid : World) (f : 
           subst (λ (x : Option Files). Replaces x end.files r.output.name.now found.0) (before.files ∙ is.files)
               (subst (λ (x : Option Files). Replaces b.files x r.output.name.now found.0) (sym then.files) found.2),
           then.created ∙ created_now,
-          created_here.2,
+          subst (λ (x : Option Files). IsFree x r.output.name.now r.output.no_clobber) (before.files ∙ is.files) free,
         );
       }
 

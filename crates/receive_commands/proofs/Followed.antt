@@ -32,13 +32,13 @@ use Rattle.receiver.specs.declared.receiving.Receiving.{Receiving}
 use Rattle.receiver.specs.declared.file_receiver.FileReceiver.{FileReceiver}
 use Rattle.request.specs.declared.requests.FollowRequest.{FollowRequest}
 use Rattle.request.specs.declared.requests.Request.TheVariants.{Follow}
-use Rattle.host.specs.World.{Files, World, Holds, IsBlank, IsFree, IsToStay, IsSilent, KeepsFiles, MayFail, one_more}
+use Rattle.host.specs.World.{Files, World, Holds, IsBlank, IsSilent, KeepsFiles, MayFail, one_more}
 use Rattle.commands.specs.Inputs.{AStream, Opened, HasValue}
 use Rattle.commands.specs.Lines.{line_of, answer_text}
 use Rattle.commands.specs.Commands.{Outcome, answer_status, object_of}
 use Rattle.commands.specs.Following.{refusal_line, IsNotTaken, Comes, Come, IsHeard, IsHeardInPart, BringsCarrier, ends_text, Ends}
 use Rattle.commands.specs.Outcomes.{Makes, IsDone, IsMade, IsBecause, IsGivenUp, IsUnprinted, MayCreate, IsStopped}
-use Rattle.commands.specs.Doing.{IsUncommitted, IsUncreated, IsUndone}
+use Rattle.commands.specs.Doing.{IsUncommitted, IsUndone}
 use Rattle.receive_commands.specs.Listening.{AreSaid, stopped_by, IsCreatedFor, IsFollowed, IsShort, IsFull, HasHeardSome, IsLacking, IsUnread, IsUnheard, IsHearing}
 use Rattle.commands.specs.ReadingInputs.{IsFrameUnread}
 use Rattle.commands.specs.declared.fault.Fault.{Fault}
@@ -155,7 +155,7 @@ Session r old P = Holds old.files r.session.now P
 
 module _ (r : FollowRequest) (old : World) where
   created_still : (mid new : World) → new.created ≡ mid.created → (p q : Bool) → q ≡ p → IsCreatedFor r old mid p → IsCreatedFor r old new q
-  created_still mid new same true q is h = subst (λ (b : Bool). IsCreatedFor r old new b) (sym is) (same ∙ h.0, h.1, h.2)
+  created_still mid new same true q is h = subst (λ (b : Bool). IsCreatedFor r old new b) (sym is) (same ∙ h.0, h.1)
   created_still mid new same false q is h = subst (λ (b : Bool). IsCreatedFor r old new b) (sym is) (same ∙ h)
 
   said_still : (mid new : World) (lines : List ℕ) (p q : Bool) → IsSilent mid new → q ≡ p → AreSaid old mid lines p → AreSaid old new lines q
@@ -242,33 +242,22 @@ module _ {W : Type 0} {w : Ghosts W} (r : FollowRequest) (old : World) where
       none_created = subst (λ (b : Bool). IsCreatedFor r old mid b) none is.created
 
       module _ (new : World) (files : new.files ≡ mid.files) (silent : IsSilent mid new) where
-        pub unprepared : new.created ≡ mid.created → (fault : Fault) → IsUncreated mid r.output fault → IsUnread r old new f fault
-        unprepared same fault why = go fault why
-          where
-            here : IsFollowed r old new f (HasHeardSome r before)
-            here = followed_as mid f (HasHeardSome r before) (some_heard mid before f is) new f (HasHeardSome r before) files silent is.sound refl
-                (created_still r old mid new same (has_output f.receiver) (has_output f.receiver) refl is.created) refl (some_heard mid before f is).heard
+        pub unprepared : new.created ≡ mid.created → IsUnread r old new f Memory
+        unprepared same = (
+          before,
+          followed_as mid f (HasHeardSome r before) (some_heard mid before f is) new f (HasHeardSome r before) files silent is.sound refl
+              (created_still r old mid new same (has_output f.receiver) (has_output f.receiver) refl is.created) refl (some_heard mid before f is).heard,
+        )
 
-            go : (fault : Fault) → IsUncreated mid r.output fault → IsUnread r old new f fault
-            go (Open n) (named, inl fails) = ((named, inl (may_fail_here mid f (IsShort r before f) is fails)), may, none, before, here)
-            go (Open n) (named, inr stays) = ((named, inr (subst (λ (fs : Option Files). IsToStay fs r.output.name.now r.output.no_clobber) is.files stays)), may, none, before, here)
-            go (File n) why = absurd why
-            go Memory why = (before, here)
-            go (Frame e) why = absurd why
-            go (Certificate e) why = absurd why
-            go (Fti e) why = absurd why
-            go (Send e) why = absurd why
-            go (NoPlace n) why = absurd why
-
-        pub prepared : (output : Option (List ℕ)) → IsBlank mid output → IsFree mid.files r.output.name.now r.output.no_clobber → new.created ≡ one_more mid.created
+        pub prepared : (output : Option (List ℕ)) → IsBlank mid output → new.created ≡ one_more mid.created
             → (receiver : FileReceiver W w) → receiver.receiving ≡ f.receiver.receiving → has_output receiver ≡ true
             → ((ds : List (List ℕ)) → Stands f.receiver ds → IsSome output → Stands receiver ds)
             → let next : Followed W w = record { receiver = receiver; count = f.count; said = f.said } in IsFollowed r old new next (IsShort r before next)
-        prepared output blank free created receiver same has stands =
+        prepared output blank created receiver same has stands =
             let next : Followed W w = record { receiver = receiver; count = f.count; said = f.said } in
             followed_as mid f (IsShort r before f) is new next (IsShort r before next) files silent (subst (λ (x : Receiving). IsSoundIn x.store) (sym same) is.sound) (ap (λ (x : Receiving). x.identity) same)
             (subst (λ (b : Bool). IsCreatedFor r old new b) (sym has)
-            (created ∙ ap one_more none_created, may, subst (λ (fs : Option Files). IsFree fs r.output.name.now r.output.no_clobber) is.files free)) refl
+            (created ∙ ap one_more none_created, may)) refl
             (told old.files (subst (λ (fs : Option Files). IfSome fs (λ held. output ≡ Some [])) is.files blank) is.heard)
           where
             told : (fs : Option Files) → IfSome fs (λ held. output ≡ Some []) → Holds fs r.session.now (λ bytes. IsShort r before f bytes is.lines)
@@ -398,7 +387,7 @@ module _ {W : Type 0} {w : Ghosts W} (r : FollowRequest) (old : World) where
     given_up = go (has_output f.receiver) is.created
       where
         go : (b : Bool) → IsCreatedFor r old mid b → IsMade old new (Follow r) None
-        go true h = (files_still, inr (kept.created ∙ h.0, h.1, h.2))
+        go true h = (files_still, inr (kept.created ∙ h.0, h.1))
         go false h = (files_still, inl (kept.created ∙ h))
 
     pub unprinted : new.failed ≡ true → IsUnprinted old new (Follow r)
@@ -406,7 +395,7 @@ module _ {W : Type 0} {w : Ghosts W} (r : FollowRequest) (old : World) where
       where
         go : (b : Bool) → IsCreatedFor r old mid b
             → ((new.files ≡ old.files) × (new.created ≡ old.created)) ⊎ (((outcome : Outcome) × Makes old new (Follow r) outcome) ⊎ IsGivenUp old new (Follow r))
-        go true h = inr (inr (files_still, kept.created ∙ h.0, h.1, h.2))
+        go true h = inr (inr (files_still, inr (kept.created ∙ h.0, h.1)))
         go false h = inl (files_still, kept.created ∙ h)
 
     -- for this fault, behind this text
@@ -440,15 +429,14 @@ module _ {W : Type 0} {w : Ghosts W} (r : FollowRequest) (old : World) where
     unread (Frame frame_fault.CutDatagram) (fails, left, rest, failed, why, is) = by_frame frame_fault.CutDatagram fails left rest failed why is
     unread (Frame frame_fault.TooLong) (fails, left, rest, failed, why, is) = by_frame frame_fault.TooLong fails left rest failed why is
     unread (Frame (frame_fault.NoSuchPlace p)) (fails, left, rest, failed, why, is) = by_frame (frame_fault.NoSuchPlace p) fails left rest failed why is
-    unread (Open n) (why, may, none, left, is) = stopped_for mid f left is new kept silent (Open n)
-        (by_unmade old new (Follow r) is.lines (Open n) (r.output, refl, why.0, why.1, may, kept.created ∙ subst (λ (b : Bool). IsCreatedFor r old mid b) none is.created))
+    unread (Open n) why = absurd why
     unread (File n) why = absurd why
     unread (Certificate e) why = absurd why
     unread (Fti e) why = absurd why
     unread (Send e) why = absurd why
     unread (NoPlace n) why = absurd why
 
-    pub gave_up : (unwritten : Unwritten) (name : Bor (List ℕ)) → name.now ≡ r.output.name.now → IsUnheard r old mid f unwritten → (fault : Fault) → IsUncommitted mid (Err unwritten) (File name) fault
+    pub gave_up : (unwritten : Unwritten) (name : Bor (List ℕ)) → name.now ≡ r.output.name.now → IsUnheard r old mid f unwritten → (fault : Fault) → IsUncommitted mid r.output (Err unwritten) (File name) fault
         → IsUndone old new (Follow r) (stopped_by fault f.said)
     gave_up unwritten.Writing name named (has, left, is) fault (inl none) = stopped_for mid f left is new kept silent fault (memory_because r old new is.lines fault none)
     gave_up unwritten.Writing name named (has, left, is) fault (inr (same, fails)) = stopped_for mid f left is new kept silent fault

@@ -14,7 +14,7 @@ use Rattle.request.specs.declared.requests.ShowRequest.{ShowRequest}
 use Rattle.request.specs.declared.requests.Request.TheVariants.{Show}
 use Rattle.host.specs.World.{World, MayFail}
 use Rattle.commands.specs.Inputs.{AStream, Datagrams, Opened, HasValue}
-use Rattle.commands.specs.Commands.{shown_status, TellsDatagrams, told_before}
+use Rattle.commands.specs.Commands.{shown_status, TellsDatagrams}
 use Rattle.commands.specs.Doing.{HasMade, HasStopped, text_of}
 use Rattle.commands.specs.Totals.{AreTotals}
 use Rattle.receive_commands.specs.Totalling.{AreCounted, AreAllCounted, IsCutBehind, IsUncounted}
@@ -23,7 +23,8 @@ use Rattle.commands.specs.declared.done.Told.TheVariants.{Lines}
 use Rattle.commands.specs.declared.fault.Fault.{Fault}
 use Rattle.commands.specs.declared.fault.Fault.TheVariants.{Open, File, Memory, Frame, Certificate, Fti, Send, NoPlace}
 use Rattle.commands.proofs.Numbered.{read_more}
-use Rattle.commands.proofs.Stopping.{by_refused, stopped}
+use Rattle.commands.proofs.Stopping.{stopped}
+use Rattle.receive_commands.proofs.Showed.{none_had, read_stops}
 use Rattle.commands.proofs.Holding.{holds_session, nothing_consumed}
 
 -- no packet, no other status
@@ -67,9 +68,7 @@ module _ (w : World) (r : ShowRequest) (asked : r.summary ≡ true) (opened : Op
   }
 
   cut : (e : FrameFault) → IsCutBehind e opened → (e ≡ frame_fault.Io → MayFail w) → HasStopped w w (Show r) (Frame e)
-  cut e (left, rs, read, rest, failed, why) fails =
-      stopped w (Show r) (Frame e)
-      (by_refused w w (Show r) [] (Frame e) (opened, left, rs, rest, failed, held, read, ap (λ (b : Bool). told_before b rs) (sym asked), why, fails))
+  cut e (left, rs, (ds, read, all), rest, failed, why) fails = none_had w r (Frame e) (read_stops w r.session.now opened left rest failed ds e held read why fails)
 
   pub uncounted : (fault : Fault) → IsUncounted opened fault → (fault ≡ Frame frame_fault.Io → MayFail w) → HasStopped w w (Show r) fault
   uncounted (Frame frame_fault.NoMemory) why fails = absurd why

@@ -1,5 +1,6 @@
 -- What the parts of following a session do.
-use Rattle.std.specs.Prelude.{◌≡◌, ℕ, Bool, true, false, List, Option, Some, length}
+use Rattle.std.specs.Prelude.{◌≡◌, ℕ, Bool, true, false, List, Option, Some, length, ⊤}
+use Rattle.std.specs.declared.alloc.AllocError.{AllocError}
 use Rattle.std.specs.Prelude.{Result, Ok, Err}
 use Rattle.std.specs.Io.KnownBytes.{IsAtEnd, Appends}
 use Rattle.session.specs.Frames.{IsReadFault}
@@ -16,10 +17,9 @@ use Rattle.receiver.specs.declared.receiver.Progress.{Progress}
 use Rattle.receiver.specs.declared.receiver.Progress.TheVariants.{More, Complete}
 use Rattle.request.specs.declared.requests.FollowRequest.{FollowRequest}
 use Rattle.request.specs.declared.requests.Request.TheVariants.{Follow}
-use Rattle.host.specs.World.{World, Holds, IsFree, MayFail, Replaces, one_more}
+use Rattle.host.specs.World.{World, Holds, MayFail, Replaces, one_more}
 use Rattle.commands.specs.Outcomes.{MayCreate}
 use Rattle.commands.specs.Following.{IsHeard}
-use Rattle.commands.specs.Doing.{IsUncreated}
 use Rattle.commands.specs.declared.fault.Fault.{Fault}
 use Rattle.commands.specs.declared.fault.Fault.TheVariants.{Memory, Frame, Open}
 use Rattle.commands.specs.declared.fault.Stop.{Stop}
@@ -42,14 +42,13 @@ stopped_by fault false = Unprinted
 
 -- ---- how far a session was followed
 
--- the output was created, as it may be; or none was
+-- the output was asked for, as it may be; or none was
 abbrev pub IsCreatedFor : FollowRequest → World → World → Bool → Type 0
 IsCreatedFor r old new true =
     (new.created ≡ one_more old.created) × MayCreate old.files (Follow r)
-    × IsFree old.files r.output.name.now r.output.no_clobber
 IsCreatedFor r old new false = new.created ≡ old.created
 
--- The receiver is the identity's, its output, if it has one, was created, and these lines were
+-- The receiver is the identity's, its output, if it has one, was asked for, and these lines were
 -- printed. Where files are told, this is so of the session's bytes and the lines.
 pub record IsFollowed {W : Type 0} {w : Ghosts W} (r : FollowRequest) (old new : World)
     (followed : Followed W w) (Heard : List ℕ → List ℕ → Type 0) : Type 0 where
@@ -97,7 +96,7 @@ IsLacking r old new followed answer = IsLack answer
     × (taken : List (List ℕ)) × IsHeard r.identity (Some bytes) left read taken lines
     × IsAtEnd left × IsAnswer r.identity taken (answer_value answer))
 
--- why no more were: there is no memory, or no frame, or the output isn't created
+-- why no more were: there is no memory, or no frame
 abbrev pub IsUnread : {W : Type 0} {w : Ghosts W} → FollowRequest → World → World → Followed W w
     → Fault → Type 0
 IsUnread r old new followed Memory =
@@ -106,10 +105,6 @@ IsUnread r old new followed (Frame NoFrameMemory) = ⊥
 IsUnread r old new followed (Frame fault) = (fault ≡ Io → MayFail old)
     × (left : Option (List ℕ)) × (rest : Option (List ℕ)) × (failed : Bool)
     × IsReadFault fault left rest failed × IsFollowed r old new followed (HasHeardSome r left)
-IsUnread r old new followed (Open name) =
-    IsUncreated old r.output (Open name) × MayCreate old.files (Follow r)
-    × (has_output followed.receiver ≡ false) × (left : Option (List ℕ))
-    × IsFollowed r old new followed (HasHeardSome r left)
 IsUnread r old new followed fault = ⊥
 
 -- following stopped at the output, which there is, or for one of these
@@ -134,12 +129,12 @@ IsEnding r old new followed (Ok Full) = IsReceived r old new followed
 IsEnding r old new followed (Ok (Lacks answer)) = IsLacking r old new followed answer
 IsEnding r old new followed (Err why) = IsUnheard r old new followed why
 
--- what was heard stays so, with the output that the next datagram wants, or why there is none
+-- what was heard stays so, with the output that the next datagram wants, or there is no memory
 abbrev pub IsPrepared : {W : Type 0} {w : Ghosts W} → FollowRequest → World → World
-    → Option (List ℕ) → Followed W w → Result Unit Fault → Type 0
+    → Option (List ℕ) → Followed W w → Result Unit AllocError → Type 0
 IsPrepared r old new left followed (Ok done) =
     IsFollowed r old new followed (IsShort r left followed)
-IsPrepared r old new left followed (Err fault) = IsUnread r old new followed fault
+IsPrepared r old new left followed (Err error) = IsUnread r old new followed Memory
 
 -- ---- parts
 
@@ -148,6 +143,11 @@ abbrev pub IsUnsaid : World → World → Stop → Type 0
 IsUnsaid old new (ByFault Memory) = new.printed ≡ old.printed
 IsUnsaid old new (ByFault fault) = ⊥
 IsUnsaid old new Unprinted = new.failed ≡ true
+
+-- that the output isn't created is told where these datagrams give an object
+abbrev pub IsUnkeptOf : Identity → List (List ℕ) → Fault → Type 0
+IsUnkeptOf who taken (Open name) = (object : List ℕ) × IsAnswer who taken (Object object)
+IsUnkeptOf who taken fault = ⊤
 
 -- the object that these datagrams give stands under the output's name; its length
 abbrev pub IsWritten : FollowRequest → Identity → List (List ℕ) → World → World → ℕ → Type 0

@@ -17,7 +17,9 @@ ghost use Rattle.commands.specs.Lines.{line_of, answer_text};
 
 use crate::held::read_frames;
 use block_recovery::DecodeFault;
-use commands::{Done, Fault, Text, Told, Unwritten, commit, create, open, put_packet_fault};
+use commands::{
+    Done, Fault, Text, Told, Unwritten, commit, if_unchanged, open, put_packet_fault, see_unchanged,
+};
 use decoder::{Answer, WriteFault};
 use file_decoder::{FileFault, FileSymbols, index_file};
 use host::Host;
@@ -26,8 +28,8 @@ use std::alloc::{AllocError, Global};
 use streams::{MemoryFile, ReadAt, WriteAt};
 
 /// Writes the object that the identity's packets in the session give, block by block. A session is
-/// held where it comes from a pipe or a device. The output is created where no datagram has a fault
-/// and no block is short, and given up where the symbols turn out to be of no object.
+/// held where it comes from a pipe or a device. The output is asked for where no datagram has a
+/// fault and no block is short, and given up where the symbols turn out to be of no object.
 pub fn decode<'a, H: Host>(
     alloc: Global,
     host: &mut H,
@@ -40,21 +42,28 @@ pub fn decode<'a, H: Host>(
 {
     let mut input = open(host, request.session)?;
     match host.length_of(&input) {
-        Some(_) => decode_file(alloc, host, request, &input),
+        Some(_) => decode_file(alloc, host, request, &input, Some(&input)),
         None => {
             let frames = read_frames(alloc, &mut input)?;
-            decode_file(alloc, host, request, &MemoryFile::new(&frames, usize::MAX))
+            decode_file(
+                alloc,
+                host,
+                request,
+                &MemoryFile::new(&frames, usize::MAX),
+                None,
+            )
         }
     }
 }
 
-// Decodes a session that is read at offsets: a file, which isn't held, or held frames. Where the
-// symbols turn out to be of no object, the output is given up.
-fn decode_file<'a, H: Host, F: ReadAt>(
+// Decodes a session that is read at offsets: a file, which isn't held and has to stay as it is, or
+// held frames. Where the symbols turn out to be of no object, the output is given up.
+fn decode_file<'a, 's, H: Host, F: ReadAt>(
     alloc: Global,
     host: &mut H,
     request: &DecodeRequest<'a>,
-    input: &F,
+    input: &'s F,
+    source: Option<&'s H::Input>,
 ) -> Result<Done, Fault<'a>>
     requires { GivesFile (H.world host.old) request.now.session.now
         (F.content input.now) (F.reliable input.now) }
@@ -63,24 +72,31 @@ fn decode_file<'a, H: Host, F: ReadAt>(
     ensures fault { IfErr result
         (HasStopped (H.world host.old) (H.world host.new) (Decode request.now)) }
 {
+    let session = request.session;
     let symbols = match index_file(alloc, input, request.identity) {
         Ok(Ok(symbols)) => symbols,
-        Ok(Err(answer)) => return Ok(told_of(alloc, &answer)?),
-        Err(fault) => return Err(file_fault(request.session, fault)),
+        Ok(Err(answer)) => {
+            if let Some(file) = source {
+                see_unchanged(host, session, file)?;
+            }
+            return Ok(told_of(alloc, &answer)?);
+        }
+        Err(fault) => return Err(file_fault(session, fault)),
     };
-    let mut file = create(host, &request.output)?;
-    let name = request.output.name;
-    let failure = Fault::File(name);
-    match write_object(alloc, request.session, input, &symbols, &mut file) {
+    let mut file = host.create_file(request.output.name, request.output.no_clobber)?;
+    let written = write_object(alloc, session, input, &symbols, &mut file);
+    let failure = Fault::File(request.output.name);
+    match if_unchanged(host, session, source, written) {
         Ok(None) => {
-            let length = commit(host, name, file, Ok(symbols.transfer_length()), failure)?;
+            let length = Ok(symbols.transfer_length());
+            let length = commit(host, &request.output, file, length, failure)?;
             Ok(Done::counted("object", length, " bytes"))
         }
         Ok(Some(answer)) => {
             host.give_up(file);
             Ok(told_of(alloc, &answer)?)
         }
-        Err(unwritten) => match commit(host, name, file, Err(unwritten), failure) {
+        Err(unwritten) => match commit(host, &request.output, file, Err(unwritten), failure) {
             Ok(_) => unreachable!(),
             Err(fault) => Err(fault),
         },

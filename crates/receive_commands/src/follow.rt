@@ -8,30 +8,29 @@ ghost use Rattle.receiver.specs.Filed.{Stands, has_output};
 ghost use Rattle.receiver.specs.Receiving.{LeaveNoneShort};
 ghost use Rattle.receiver.specs.Stands.{IsSoundIn};
 ghost use Rattle.request.specs.declared.requests.Request.TheVariants.{Follow};
-ghost use Rattle.host.specs.World.{World as WorldValue, GivesFile, KeepsFiles, IsSilent, MayFail};
+ghost use Rattle.host.specs.World.{World as WorldValue, GivesFile, KeepsFiles, IsFree, IsSilent};
 ghost use Rattle.request.specs.declared.requests.FollowRequest.{FollowRequest as RequestValue};
-ghost use Rattle.commands.specs.Doing.{IsUndone, IsUncommitted};
+ghost use Rattle.commands.specs.Doing.{IsUndone, IsUncommitted, IsUncreated, IsUnwritten};
 ghost use Rattle.commands.specs.Following.{complete_line, refusal_line};
 ghost use Rattle.commands.specs.Lines.{refusal_words};
 ghost use Rattle.receive_commands.specs.Listening.{AreSaid, IsFollowed, IsShort, IsReceived};
 ghost use Rattle.receive_commands.specs.Listening.{IsLacking};
 ghost use Rattle.receive_commands.specs.Listening.{IsUnheard, IsHearing, IsEnding, IsPrepared};
-ghost use Rattle.receive_commands.specs.Listening.{IsWritten};
+ghost use Rattle.receive_commands.specs.Listening.{IsUnkeptOf, IsWritten};
 ghost use Rattle.receive_commands.specs.Listening.{stopped_by};
 ghost use Rattle.commands.specs.Outcomes.{IsDone};
-ghost use Rattle.commands.specs.declared.fault.Fault.TheVariants.{File, Memory};
+ghost use Rattle.commands.specs.declared.fault.Fault.TheVariants.{File};
 ghost use Rattle.commands.specs.declared.output.Unwritten.TheVariants.{Writing};
 
 use crate::decode::told_of;
 use block_recovery::DecodeFault;
 use commands::{
-    Fault, Stop, Text, Unwritten, commit, create, next_datagram, open, print_count,
-    put_packet_fault,
+    Fault, Stop, Text, Unwritten, commit, next_datagram, open, print_count, put_packet_fault,
 };
 use decoder::Answer;
 use host::Host;
 use receiver::{FeedFault, FileReceiver, Progress};
-use request::FollowRequest;
+use request::{FollowRequest, Output};
 use session::{Failed, Read};
 use std::alloc::{AllocError, Global};
 use streams::WriteAt;
@@ -54,7 +53,7 @@ enum Ending {
 }
 
 /// Takes the session's datagrams one by one, and prints a line for each that is refused. The output
-/// is created for the first carrier whose FTI has its symbol, and has the symbols from then on,
+/// is asked for at the first carrier whose FTI has its symbol, and has the symbols from then on,
 /// where it has offsets. Once the datagrams give the object no more are read, and it is kept; else
 /// the output is given up, and what lacks is printed at the end. Answers the status. Each line is
 /// passed on before the next datagram is read. Where printing fails, no more is printed, and the
@@ -153,8 +152,8 @@ fn hear<'a, H: Host>(
         → IsHearing request.now old (H.world host.new) after result.0 result.1 }
 {
     let (mut followed, prepared) = prepare(host, request, followed, datagram);
-    if let Err(fault) = prepared {
-        return (followed, Err(Unwritten::Fault(fault)));
+    if let Err(AllocError) = prepared {
+        return (followed, Err(Unwritten::Fault(Fault::Memory)));
     }
     let place = followed.count;
     let Some(read) = place.checked_add(1) else {
@@ -174,13 +173,13 @@ fn hear<'a, H: Host>(
     }
 }
 
-// Creates the output where this datagram is the first carrier whose FTI has its symbol.
+// Asks for the output where this datagram is the first carrier whose FTI has its symbol.
 fn prepare<'a, H: Host>(
     host: &mut H,
     request: &FollowRequest<'a>,
     mut followed: Followed<H::Output>,
     datagram: &[u8],
-) -> (Followed<H::Output>, Result<(), Fault<'a>>)
+) -> (Followed<H::Output>, Result<(), AllocError>)
     requires { IsSoundIn followed.receiver.receiving.store }
     ensures sound { IsSoundIn result.0.receiver.receiving.store }
     ensures said { result.0.said ≡ followed.said }
@@ -196,7 +195,8 @@ fn prepare<'a, H: Host>(
     if !followed.receiver.wants_output(datagram) {
         return (followed, Ok(()));
     }
-    let output = match create(host, &request.output) {
+    let Output { name, no_clobber } = request.output;
+    let output = match host.create_file(name, no_clobber) {
         Ok(output) => output,
         Err(fault) => return (followed, Err(fault)),
     };
@@ -321,8 +321,13 @@ fn keep_object<'a, H: Host>(
         → LeaveNoneShort receiver.receiving.identity taken
         → IfOk result (IsWritten request.now receiver.receiving.identity taken
         (H.world host.old) (H.world host.new)) }
-    ensures fault { IfErr result (λ told. (told ≡ Memory)
-        ⊎ ((told ≡ File request.now.output.name) × MayFail (H.world host.old))) }
+    ensures free { OnOk result (IsFree (H.world host.old).files
+        request.now.output.name.now request.now.output.no_clobber) }
+    ensures given { (taken : List (List ℕ)) → Stands receiver taken
+        → LeaveNoneShort receiver.receiving.identity taken
+        → IfErr result (IsUnkeptOf receiver.receiving.identity taken) }
+    ensures fault { IfErr result (λ told. IsUncreated (H.world host.old) request.now.output told
+        ⊎ IsUnwritten (H.world host.old) (File request.now.output.name) told) }
     ensures files { OnErr result ((H.world host.new).files ≡ (H.world host.old).files) }
     ensures silent { IsSilent (H.world host.old) (H.world host.new) }
     ensures created { (H.world host.new).created ≡ (H.world host.old).created }
@@ -332,8 +337,8 @@ fn keep_object<'a, H: Host>(
         Ok(length) => Ok(length),
         Err(Failed) => Err(Unwritten::Writing),
     };
-    let name = request.output.name;
-    commit(host, name, output, written, Fault::File(name))
+    let failure = Fault::File(request.output.name);
+    commit(host, &request.output, output, written, failure)
 }
 
 // Prints what the datagrams lack, and answers the status. The output, if there is one, is given up.
@@ -395,19 +400,19 @@ fn drop_output<'a, H: Host>(
     unwritten: Unwritten<'a>,
 ) -> Fault<'a>
     requires { unwritten ≡ Writing → has_output receiver ≡ true }
-    ensures fault { IsUncommitted (H.world host.old) (Err unwritten.entry)
+    ensures fault { IsUncommitted (H.world host.old) request.now.output (Err unwritten.entry)
         (File request.now.output.name) result }
     ensures files { KeepsFiles (H.world host.old) (H.world host.new) }
     ensures silent { IsSilent (H.world host.old) (H.world host.new) }
 {
-    let name = request.output.name;
     let Some(output) = receiver.into_output() else {
         return match unwritten {
             Unwritten::Fault(fault) => fault,
             Unwritten::Writing => unreachable!(),
         };
     };
-    match commit(host, name, output, Err(unwritten), Fault::File(name)) {
+    let failure = Fault::File(request.output.name);
+    match commit(host, &request.output, output, Err(unwritten), failure) {
         Ok(_) => unreachable!(),
         Err(fault) => fault,
     }

@@ -13,7 +13,9 @@ ghost use Rattle.commands.specs.declared.fault.Stop.TheVariants.{ByFault};
 
 use crate::totals::summarize;
 use alc::{Packet, PacketFault, read};
-use commands::{Fault, Stop, Text, finish, next_datagram, open, put_packet_fault};
+use commands::{
+    Fault, Stop, Text, finish, next_datagram, open, pass_frames, put_packet_fault, see_unchanged,
+};
 use host::Host;
 use partition::Fti;
 use request::ShowRequest;
@@ -41,7 +43,8 @@ pub fn show<'a, H: Host>(
 }
 
 // Prints a line for each datagram. Where the session comes as it is sent, a line is passed on
-// before the next datagram is read.
+// before the next datagram is read. Else its frames are gone over first, so that what is wrong with
+// one of them is all that is printed.
 fn show_each<'a, H: Host>(
     alloc: Global,
     host: &mut H,
@@ -57,6 +60,10 @@ fn show_each<'a, H: Host>(
     let mut frames = open(host, request.session)?;
     // What has no length comes as it is sent.
     let is_live = host.length_of(&frames).is_none();
+    if !is_live {
+        pass_frames(alloc, &frames)?;
+        see_unchanged(host, request.session, &frames)?;
+    }
     print_datagrams(alloc, &mut frames, host, is_live)
 }
 

@@ -22,7 +22,14 @@ use Rattle.send_commands.specs.Dropping.{AreAll, IsUnplaced}
 use Rattle.commands.specs.Outcomes.{IsBecause, MayCreate}
 use Rattle.send_commands.proofs.Joins.{LacksPlace, unthinned}
 use Rattle.commands.proofs.Stopping.{by_unread, by_refused, stopped}
-use Rattle.commands.proofs.Holding.{is_there}
+use Rattle.commands.proofs.Holding.{holds_session, is_there}
+use Rattle.commands.proofs.Stopping.{WritesGiven}
+use Rattle.std.proofs.Common.{refl, ap, codes}
+use Rattle.lists.specs.Selection.{rest}
+use Rattle.session.specs.Frames.{frames}
+use Rattle.session.specs.Ranges.{is_in_some}
+use Rattle.session.specs.Thinning.{IsThinned}
+use Rattle.send_commands.proofs.Given.{line}
 
 -- ---- inputs, with the file of places or without one
 
@@ -63,6 +70,22 @@ are_had files r (Some name) all datagrams (more, listed, is) has = record {
   gives = λ outcome gives. subst (λ (ranges : List PlaceRange). GivesOthers ranges datagrams outcome) is gives;
   unhad = λ place outside. subst (λ (ranges : List PlaceRange). first_unhad (length datagrams) ranges ≡ Some place) is outside;
 }
+
+-- what is written of them
+pub dropped : (files : Option Files) (r : DropRequest) (all : List PlaceRange) (opened left blank contents : Option (List ℕ)) (count : ℕ) → AreAll files r.places_file r.places.items all
+    → HasValue files (AStream r.session.now) (Opened opened) → IsThinned all opened left blank contents count
+    → WritesGiven files (Drop r) (line (codes "kept") (codes " datagrams") count) 0 blank contents
+dropped files r all opened left blank contents count are held thin =
+    let bytes = frames (rest (is_in_some all) thin.datagrams) in
+    let had = are_had files r r.places_file all thin.datagrams are (holds_session files r.session.now opened left thin.datagrams held thin.read thin.end) in
+    record {
+      bytes = bytes;
+      values = had.values;
+      read = had.have;
+      gives = had.gives (record { text = line (codes "kept") (codes " datagrams") count; status = 0; output = Some bytes })
+          (thin.inside, (ap (line (codes "kept") (codes " datagrams")) thin.counted, refl, refl));
+      gained = thin.written;
+    }
 
 -- ---- why nothing is dropped
 

@@ -3,3 +3,5 @@ mod Joins
 mod Conversions
 mod Dropped
 mod Salvaged
+mod Given
+mod Unsent

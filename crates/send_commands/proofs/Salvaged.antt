@@ -12,15 +12,18 @@ use Rattle.session.proofs.Writes.{then_appends}
 use Rattle.cert.proofs.FromReader.{consumes_one}
 use Rattle.request.specs.declared.requests.SalvageRequest.{SalvageRequest}
 use Rattle.request.specs.declared.requests.Request.TheVariants.{Salvage}
-use Rattle.host.specs.World.{World, GivesFile}
+use Rattle.host.specs.World.{Files, World, GivesFile}
+use Rattle.commands.specs.Inputs.{AStream, Opened, HasValue}
 use Rattle.commands.specs.Commands.{IsSalvaged}
 use Rattle.commands.specs.Outcomes.{IsBecause}
+use Rattle.send_commands.proofs.Given.{line}
+use Rattle.std.proofs.Common.{codes}
 use Rattle.send_commands.specs.Salvaging.{HasCopied, HasSalvaged, IsBroken, IsUncopied}
 use Rattle.commands.specs.declared.fault.Fault.{Fault}
 use Rattle.commands.specs.declared.fault.Fault.TheVariants.{Open, File, Memory, Frame, Certificate, Fti, Send, NoPlace}
 use Rattle.commands.specs.declared.output.Unwritten.{Unwritten}
 use Rattle.commands.specs.declared.output.Unwritten.TheVariants as unwritten
-use Rattle.commands.proofs.Stopping.{by_refused}
+use Rattle.commands.proofs.Stopping.{by_refused, WritesGiven}
 use Rattle.commands.proofs.Holding.{is_there, nothing_consumed}
 
 -- before the first
@@ -104,6 +107,17 @@ module _ (a mid b m : Option (List ℕ)) (n : ℕ) (h : HasCopied a mid b m n) w
   broken Io new failed why is = absurd (is.0 refl)
   broken NoMemory new failed why is = absurd (is.1 refl)
   broken (NoSuchPlace place) new failed why is = absurd why
+
+-- what is written of them
+pub salvaged : (files : Option Files) (r : SalvageRequest) (opened blank contents : Option (List ℕ)) (status count : ℕ) → HasValue files (AStream r.session.now) (Opened opened)
+    → HasSalvaged opened blank contents status count → WritesGiven files (Salvage r) (line (codes "kept") (codes " datagrams") count) status blank contents
+salvaged files r opened blank contents status count held kept = record {
+  bytes = frames kept.datagrams;
+  values = Opened opened ∷ [];
+  read = (held, tt);
+  gives = (kept.datagrams, status, kept.front, (ap (line (codes "kept") (codes " datagrams")) kept.counted, refl, refl));
+  gained = kept.written;
+}
 
 -- ---- why not
 

@@ -12,7 +12,7 @@ ghost use Rattle.send_commands.specs.Certifying.{WritesCertificate, IsUncertifie
 ghost use Rattle.send_commands.specs.Certifying.{IsUncertifiedFrom};
 
 use certificate::CertFault;
-use commands::{Done, Fault, Unwritten, commit, create, fti_of, open, read_rest};
+use commands::{Done, Fault, Unwritten, commit, fti_of, open, read_rest};
 use encoder::{CertifyFault, CertifyFromFault, certify_from, certify_to};
 use host::Host;
 use partition::Fti;
@@ -64,10 +64,10 @@ fn certify_read<'a, H: Host>(
     ensures fault { IfErr result
         (HasStopped (H.world host.old) (H.world host.new) (Certify request.now)) }
 {
-    let mut file = create(host, &request.output)?;
+    let mut file = host.create_file(request.output.name, request.output.no_clobber)?;
     let written = write_read(alloc, input, fti, request, &mut file);
     let failure = Fault::Certificate(CertFault::Io);
-    let count = commit(host, request.output.name, file, written, failure)?;
+    let count = commit(host, &request.output, file, written, failure)?;
     Ok(Done::counted("certified", count, " blocks"))
 }
 
@@ -111,10 +111,10 @@ fn certify_held<'a, H: Host>(
     ensures fault { IfErr result
         (HasStopped (H.world host.old) (H.world host.new) (Certify request.now)) }
 {
-    let mut file = create(host, &request.output)?;
+    let mut file = host.create_file(request.output.name, request.output.no_clobber)?;
     let written = write_held(alloc, object, fti, request.identity, &mut file);
     let failure = Fault::Certificate(CertFault::Io);
-    let count = commit(host, request.output.name, file, written, failure)?;
+    let count = commit(host, &request.output, file, written, failure)?;
     Ok(Done::counted("certified", count, " blocks"))
 }
 

@@ -6,7 +6,7 @@ ghost use Rattle.commands.specs.Doing.{HasMade, HasStopped};
 ghost use Rattle.send_commands.specs.Converted.{Converts, IsUnconverted};
 
 use certificate::{CertFault, ConvertFault};
-use commands::{Done, Fault, Unwritten, commit, create, open};
+use commands::{Done, Fault, Unwritten, commit, open};
 use host::Host;
 use reception::Identity;
 use request::ConvertRequest;
@@ -25,10 +25,10 @@ pub fn convert<'a, H: Host>(
         (HasStopped (H.world host.old) (H.world host.new) (Convert request.now)) }
 {
     let mut input = open(host, request.certificate)?;
-    let mut file = create(host, &request.output)?;
+    let mut file = host.create_file(request.output.name, request.output.no_clobber)?;
     let converted = convert_file(alloc, &mut input, request.identity, &mut file);
     let failure = Fault::Certificate(CertFault::Io);
-    let count = commit(host, request.output.name, file, converted, failure)?;
+    let count = commit(host, &request.output, file, converted, failure)?;
     Ok(Done::counted("converted", count, " blocks"))
 }
 

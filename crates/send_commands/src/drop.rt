@@ -7,7 +7,7 @@ ghost use Rattle.commands.specs.Doing.{HasMade, HasStopped};
 ghost use Rattle.send_commands.specs.Copying.{IsCutShort};
 ghost use Rattle.send_commands.specs.Dropping.{AreAll, IsUnplaced};
 
-use commands::{Done, Fault, Unwritten, commit, create, open, read_places};
+use commands::{Done, Fault, Unwritten, commit, open, read_places};
 use host::Host;
 use request::DropRequest;
 use session::{FrameFault, PlaceRange, Read, Write, thin_frames};
@@ -27,10 +27,10 @@ pub fn drop_places<'a, H: Host>(
 {
     let mut input = open(host, request.session)?;
     let ranges = all_ranges(alloc, host, request)?;
-    let mut file = create(host, &request.output)?;
+    let mut file = host.create_file(request.output.name, request.output.no_clobber)?;
     let thinned = thin_out(alloc, &mut input, ranges.as_slice(), &mut file);
     let failure = Fault::Frame(FrameFault::Io);
-    let count = commit(host, request.output.name, file, thinned, failure)?;
+    let count = commit(host, &request.output, file, thinned, failure)?;
     Ok(Done::counted("kept", count, " datagrams"))
 }
 

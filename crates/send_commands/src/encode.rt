@@ -8,7 +8,7 @@ ghost use Rattle.commands.specs.Inputs.{AnObject, Bytes, HasValue};
 ghost use Rattle.encoder.specs.ObjectRead.{ReadsObject};
 ghost use Rattle.send_commands.specs.Sending.{WritesSession, IsUnsent, IsUnsentFrom, where_empty};
 
-use commands::{Done, Fault, Unwritten, commit, create, fti_of, open, read_rest};
+use commands::{Done, Fault, Unwritten, commit, fti_of, open, read_rest};
 use encoder::{SendFault, SendFromFault};
 use host::Host;
 use lists::are_bytes;
@@ -61,10 +61,10 @@ fn encode_read<'a, H: Host>(
     ensures fault { IfErr result
         (HasStopped (H.world host.old) (H.world host.new) (Encode request.now)) }
 {
-    let mut file = create(host, &request.output)?;
+    let mut file = host.create_file(request.output.name, request.output.no_clobber)?;
     let sent = send_read(alloc, input, fti, request, &mut file);
     let failure = Fault::Send(SendFault::Io);
-    let count = commit(host, request.output.name, file, sent, failure)?;
+    let count = commit(host, &request.output, file, sent, failure)?;
     Ok(Done::counted("encoded", count, " datagrams"))
 }
 
@@ -158,10 +158,10 @@ fn encode_held<'a, H: Host>(
     ensures fault { IfErr result
         (HasStopped (H.world host.old) (H.world host.new) (Encode request.now)) }
 {
-    let mut file = create(host, &request.output)?;
+    let mut file = host.create_file(request.output.name, request.output.no_clobber)?;
     let sent = send_held(alloc, object, fti, &request.sending, &mut file);
     let failure = Fault::Send(SendFault::Io);
-    let count = commit(host, request.output.name, file, sent, failure)?;
+    let count = commit(host, &request.output, file, sent, failure)?;
     Ok(Done::counted("encoded", count, " datagrams"))
 }
 

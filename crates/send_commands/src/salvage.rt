@@ -4,7 +4,7 @@ ghost use Rattle.request.specs.declared.requests.Request.TheVariants.{Salvage};
 ghost use Rattle.commands.specs.Doing.{HasMade, HasStopped};
 ghost use Rattle.send_commands.specs.Salvaging.{HasSalvaged, IsBroken, IsUncopied, IsUnreadFor};
 
-use commands::{Done, Fault, Told, Unwritten, commit, create, open};
+use commands::{Done, Fault, Told, Unwritten, commit, open};
 use host::Host;
 use request::SalvageRequest;
 use session::{FrameFault, Read, Write, read_next, write_one};
@@ -29,10 +29,10 @@ pub fn salvage<'a, H: Host>(
         (HasStopped (H.world host.old) (H.world host.new) (Salvage request.now)) }
 {
     let mut input = open(host, request.session)?;
-    let mut file = create(host, &request.output)?;
+    let mut file = host.create_file(request.output.name, request.output.no_clobber)?;
     let Salvaged { written, status } = copy_front(alloc, &mut input, &mut file);
     let failure = Fault::Frame(FrameFault::Io);
-    let count = commit(host, request.output.name, file, written, failure)?;
+    let count = commit(host, &request.output, file, written, failure)?;
     Ok(Done {
         told: Told::Count("kept", count, " datagrams"),
         status,

@@ -5,7 +5,8 @@ use Rattle.commands.specs.declared.fault.Fault.{Fault}
 use Rattle.file_check.specs.Files.{IsVerdictIn, IsVerdictOnSome}
 use Rattle.check_commands.specs.Checks.{OfFiles}
 use Rattle.check_commands.specs.CheckFaults.{fault_of}
-use Rattle.check_commands.proofs.CheckedFiles.{each_surveyed, of_made, of_refused, some_summed, surveyed_of_files, unchecked, verdict_of_files}
+use Rattle.commands.proofs.Stopping.{passed_on}
+use Rattle.check_commands.proofs.CheckedFiles.{changed_since, each_surveyed, of_made, of_refused, some_summed, surveyed_of_files, unchecked, verdict_of_files}
 use Rattle.check_commands.proofs.Pictured.{told_there}
 use Rattle.check_commands.proofs.check.answer_files.Goals as goal
 use Rattle.check_commands.proofs.check.answer_files.Goals.{then-is_some, else-is_some+in-Ok-Some, else-is_some+in-Ok-None, else-is_some+in-Err}
@@ -59,3 +60,11 @@ returns-in-Err-checked-clause-fault g c =
       | else-is_some+in-Err b ↦ of_refused (λ fault. HasStopped w w (Check r) (fault_of r.session r.object fault)) _ _ e c.in-Err-checked.is b.checked-is
           (unchecked w r _ _ _ _ _ _ c.requires.session c.requires.object c.requires.certificate _ (rw b.in-Err.is at b.check_files.ensures.untold) (rw b.in-Err.is at b.check_files.ensures.fault))
     ])
+
+pub returns-in_err-see_files-in-Ok-Some-checked-clause-fault : goal.returns-in_err-see_files-in-Ok-Some-checked-clause-fault
+returns-in_err-see_files-in-Ok-Some-checked-clause-fault g c =
+    let w = g.H.Host.world c.args.host.now in
+    let r = c.args.request.now in
+    let fault = c.in_err-see_files-in-Ok-Some-checked.field-0.0 in
+    passed_on c.from_residual.result fault _ c.from_residual.ensures.1
+    (changed_since w r _ _ _ _ _ _ c.requires.session c.requires.object c.requires.certificate fault c.in_err-see_files-in-Ok-Some-checked.ensures)

@@ -10,8 +10,8 @@ returns-in_err-write_output-in-Some-clause-fault g c =
     let r = c.args.request.now in
     let fault = c.in_err-write_output-in-Some.field-0.0 in
     passed_on c.from_residual-in_err-write_output-in-Some.result fault _ c.from_residual-in_err-write_output-in-Some.ensures.1
-    (unkept w (g.H.Host.world c.write_output.new.host) (Twin r) r.output refl c.in_err-write_output-in-Some.ensures.files c.write_output.ensures.silent
-    (may_create w.files r c.args.inputs.now c.requires c.in_ok-line.field-0.line c.in-Some.other (rw c.in-Some.is at c.in_ok-line.ensures))
+    (let may = may_create w.files r c.args.inputs.now c.requires c.in_ok-line.field-0.line c.in-Some.other (rw c.in-Some.is at c.in_ok-line.ensures) in
+    unkept w (g.H.Host.world c.write_output.new.host) (Twin r) r.output refl c.in_err-write_output-in-Some.ensures.files c.write_output.ensures.silent may may
     _ fault (λ may more. (may, refl, more)) c.in_err-write_output-in-Some.ensures.fault)
 
 pub returns-in_ok-write_output-in-Some-clause-ok : goal.returns-in_ok-write_output-in-Some-clause-ok

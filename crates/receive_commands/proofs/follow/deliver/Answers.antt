@@ -14,13 +14,13 @@ returns-in-Err-clause-fault g c = λ old received.
     subst (λ (stop : Stop). IsUndone old new (Follow r) stop) (sym c.stop_by.ensures)
     (not_kept r old (g.H.Host.world c.args.host.now) c.args.followed received (g.H.Host.world c.tell_complete-said.new.host) c.tell_complete-said.result c.tell_complete-said.ensures.said
     c.tell_complete-said.ensures.before c.tell_complete-said.ensures.files new c.keep_object.ensures.silent c.keep_object.ensures.created c.in-Err.ensures.files
-    r.output.name refl c.in-Err.fault c.in-Err.ensures.fault)
+    r.output.name refl c.in-Err.fault c.in-Err.ensures.given c.in-Err.ensures.fault)
 
 pub returns-then-not-said-clause-fault : goal.returns-then-not-said-clause-fault
 returns-then-not-said-clause-fault g c = λ old received.
     undelivered_unsaid c.args.request.now old (g.H.Host.world c.args.host.now) c.args.followed received (g.H.Host.world c.tell_complete-said.new.host) c.tell_complete-said.result
     c.tell_complete-said.ensures.said c.tell_complete-said.ensures.before c.tell_complete-said.ensures.files (g.H.Host.world c.keep_object.new.host) c.keep_object.ensures.silent
-    c.keep_object.ensures.created c.in-Ok.length c.in-Ok.ensures.kept c.if-not-said.true
+    c.keep_object.ensures.created c.in-Ok.ensures.free c.in-Ok.length c.in-Ok.ensures.kept c.if-not-said.true
 
 pub returns-in_err-print_count-clause-fault : goal.returns-in_err-print_count-clause-fault
 returns-in_err-print_count-clause-fault g c = λ old received.
@@ -29,11 +29,11 @@ returns-in_err-print_count-clause-fault g c = λ old received.
     passed_on c.from_residual.result Unprinted (IsUndone old end (Follow r)) c.from_residual.ensures.1
     (undelivered r old (g.H.Host.world c.args.host.now) c.args.followed received (g.H.Host.world c.tell_complete-said.new.host) c.tell_complete-said.result
     c.tell_complete-said.ensures.said c.tell_complete-said.ensures.before c.tell_complete-said.ensures.files (g.H.Host.world c.keep_object.new.host) c.keep_object.ensures.silent
-    c.keep_object.ensures.created c.in-Ok.length c.in-Ok.ensures.kept end c.print_count.ensures.files c.in_err-print_count.ensures.fails)
+    c.keep_object.ensures.created c.in-Ok.ensures.free c.in-Ok.length c.in-Ok.ensures.kept end c.print_count.ensures.files c.in_err-print_count.ensures.fails)
 
 pub returns-clause-ok : goal.returns-clause-ok
 returns-clause-ok g c = λ old received.
     delivered c.args.request.now old (g.H.Host.world c.args.host.now) c.args.followed received (g.H.Host.world c.tell_complete-said.new.host) c.tell_complete-said.result
     c.tell_complete-said.ensures.said c.tell_complete-said.ensures.before c.tell_complete-said.ensures.files (g.H.Host.world c.keep_object.new.host) c.keep_object.ensures.silent
-    c.keep_object.ensures.created c.in-Ok.length c.in-Ok.ensures.kept (g.H.Host.world c.print_count.new.host) c.if-not-said.false c.print_count.ensures.files
+    c.keep_object.ensures.created c.in-Ok.ensures.free c.in-Ok.length c.in-Ok.ensures.kept (g.H.Host.world c.print_count.new.host) c.if-not-said.false c.print_count.ensures.files
     c.in_ok-print_count.ensures.printed

@@ -1,40 +1,43 @@
-use Rattle.std.proofs.Common.{◌∙◌, ℕ, [], ◌∷◌, Some, refl, sym, ap, subst, codes}
-use Rattle.certificate.specs.Certificate.{certificate_text, named_as}
-use Rattle.partition.specs.Fti.{Fti}
-use Rattle.commands.specs.Inputs.{Bytes}
-use Rattle.commands.specs.Lines.{count_line}
-use Rattle.commands.specs.Commands.{GivesCertificate}
+use Rattle.std.proofs.Common.{refl, sym, ap, codes}
+use Rattle.request.specs.declared.requests.Request.TheVariants.{Certify}
+use Rattle.certificate.specs.declared.certificate.CertFault.TheVariants.{Io}
+use Rattle.commands.specs.declared.fault.Fault.TheVariants.{Certificate as NoCertificate}
 use Rattle.commands.specs.Doing.{text_of}
 use Rattle.send_commands.specs.Certifying.{WritesCertificate}
-use Rattle.commands.proofs.Stopping.{kept_whole}
-use Rattle.send_commands.proofs.certify.certify_held.Goals as goal
 use Rattle.commands.proofs.Holding.{committed}
+use Rattle.commands.proofs.Stopping.{all_made, gives_output, passed_on, uncommitted}
+use Rattle.send_commands.proofs.Given.{line, certified}
+use Rattle.send_commands.proofs.Unsent.{held_there, because_uncertified}
+use Rattle.send_commands.proofs.certify.certify_held.Goals as goal
+
+pub returns-in_err-count-clause-fault : goal.returns-in_err-count-clause-fault
+returns-in_err-count-clause-fault g c =
+    let old = g.H.Host.world c.args.host.now in
+    let r = c.args.request.now in
+    let object = c.args.object.now in
+    let blank = g.H.Output.Write.contents c.in_ok-file.file in
+    let contents = g.H.Output.Write.contents c.write_held-written.new.writer in
+    let fault = c.in_err-count.field-0.0 in
+    passed_on c.from_residual-in_err-count.result fault _ c.from_residual-in_err-count.ensures.1
+    (uncommitted old (g.H.Host.world c.create_file.new.self) (Certify r) r.output refl c.create_file.ensures.files c.create_file.ensures.silent c.in_ok-file.ensures.created
+    (g.H.Host.world c.commit.new.host) c.commit.ensures.silent c.commit.ensures.created (held_there old.files r.object.now object c.requires.held, tt) c.in_err-count.ensures.files
+    (NoCertificate Io) (λ may more. (may, refl, more)) c.write_held-written.result fault
+    (λ n is. gives_output old.files (Certify r) (line (codes "certified") (codes " blocks") n) 0 blank contents
+    (certified old.files blank contents n r object c.args.fti.now c.requires.held c.requires.sizes
+    (committed c.write_held-written.result n (λ n. WritesCertificate object c.args.fti.now r.identity n blank contents) is c.write_held-written.ensures.written)))
+    (because_uncertified old (g.H.Host.world c.commit.new.host) r c.write_held-written.result c.write_held-written.ensures.fault)
+    c.in_err-count.ensures.fault)
 
 pub returns-clause-ok : goal.returns-clause-ok
 returns-clause-ok g c =
+    let old = g.H.Host.world c.args.host.now in
     let r = c.args.request.now in
     let object = c.args.object.now in
     let count = c.in_ok-count.count in
     let blank = g.H.Output.Write.contents c.in_ok-file.file in
     let contents = g.H.Output.Write.contents c.write_held-written.new.writer in
-    let s = committed c.write_held-written.result count (λ n. WritesCertificate object c.args.fti.now r.identity n blank contents)
-    c.in_ok-count.ensures.count c.write_held-written.ensures.written in
-    let text = count_line (codes "certified") count (codes " blocks") in
-    record {
-      outcome = record { text = text; status = 0; output = Some (certificate_text (named_as r.identity s.0.certificate)) };
-      makes = record {
-        values = Bytes object ∷ [];
-        read = (c.requires.held, tt);
-        gives = subst (λ (f : Fti). GivesCertificate r.identity object f (record { text = text; status = 0; output = Some (certificate_text (named_as r.identity s.0.certificate)) })) c.requires.sizes
-            (s.0.certificate, s.0.form, s.0.fti, s.0.gives, s.0.certifies, (ap (λ (n : ℕ). count_line (codes "certified") n (codes " blocks")) s.1, refl, refl));
-        made = (
-          kept_whole (g.H.Host.world c.args.host.now).files (g.H.Host.world c.create.new.host).files (g.H.Host.world c.commit.new.host).files r.output.name.now (certificate_text (named_as r.identity s.0.certificate)) blank contents
-              c.in_ok-file.ensures.blank s.0.gained c.create.ensures.files c.in_ok-count.ensures.kept,
-          c.commit.ensures.created ∙ c.in_ok-file.ensures.created,
-          c.in_ok-file.ensures.free,
-        );
-      };
-      text = ap text_of (sym c.counted.ensures.told);
-      status = sym c.counted.ensures.status;
-      silent = c.commit.ensures.silent.printed ∙ c.create.ensures.silent.printed;
-    }
+    all_made old (g.H.Host.world c.create_file.new.self) (Certify r) r.output refl c.create_file.ensures.files c.create_file.ensures.silent c.in_ok-file.ensures.created
+    (g.H.Host.world c.commit.new.host) c.commit.ensures.silent c.commit.ensures.created (line (codes "certified") (codes " blocks") count) 0 blank contents c.in_ok-file.ensures.blank
+    (certified old.files blank contents count r object c.args.fti.now c.requires.held c.requires.sizes
+    (committed c.write_held-written.result count (λ n. WritesCertificate object c.args.fti.now r.identity n blank contents) c.in_ok-count.ensures.count c.write_held-written.ensures.written))
+    c.in_ok-count.ensures.kept c.in_ok-count.ensures.free _ (ap text_of (sym c.counted.ensures.told)) (sym c.counted.ensures.status)

@@ -1,45 +1,46 @@
-use Rattle.std.proofs.Common.{◌∙◌, ℕ, [], ◌∷◌, Some, refl, sym, ap, subst, codes}
+use Rattle.std.proofs.Common.{refl, sym, ap, codes}
 use Rattle.encoder.specs.ObjectRead.{ReadsObject}
-use Rattle.certificate.specs.Certificate.{certificate_text, named_as}
-use Rattle.partition.specs.Fti.{Fti}
-use Rattle.commands.specs.Inputs.{Bytes}
-use Rattle.commands.specs.Lines.{count_line}
-use Rattle.commands.specs.Commands.{sized, GivesCertificate}
+use Rattle.request.specs.declared.requests.Request.TheVariants.{Certify}
+use Rattle.certificate.specs.declared.certificate.CertFault.TheVariants.{Io}
+use Rattle.commands.specs.declared.fault.Fault.TheVariants.{Certificate as NoCertificate}
 use Rattle.commands.specs.Doing.{text_of}
 use Rattle.send_commands.specs.Certifying.{WritesCertificate}
-use Rattle.send_commands.proofs.Making.{gives_object}
-use Rattle.commands.proofs.Stopping.{kept_whole}
+use Rattle.commands.proofs.Holding.{committed, is_there}
+use Rattle.commands.proofs.Stopping.{all_made, gives_output, passed_on, uncommitted}
+use Rattle.send_commands.proofs.Given.{line, certified_read}
+use Rattle.send_commands.proofs.Unsent.{because_uncertified_from}
 use Rattle.send_commands.proofs.certify.certify_read.Goals as goal
-use Rattle.commands.proofs.Holding.{committed}
+
+pub returns-in_err-count-clause-fault : goal.returns-in_err-count-clause-fault
+returns-in_err-count-clause-fault g c =
+    let old = g.H.Host.world c.args.host.now in
+    let r = c.args.request.now in
+    let left = g.H.Input.Read.remaining c.args.input.now in
+    let blank = g.H.Output.Write.contents c.in_ok-file.file in
+    let contents = g.H.Output.Write.contents c.write_read-written.new.writer in
+    let fault = c.in_err-count.field-0.0 in
+    passed_on c.from_residual-in_err-count.result fault _ c.from_residual-in_err-count.ensures.1
+    (uncommitted old (g.H.Host.world c.create_file.new.self) (Certify r) r.output refl c.create_file.ensures.files c.create_file.ensures.silent c.in_ok-file.ensures.created
+    (g.H.Host.world c.commit.new.host) c.commit.ensures.silent c.commit.ensures.created (is_there old.files r.object.now left c.requires.opened.bytes, tt) c.in_err-count.ensures.files
+    (NoCertificate Io) (λ may more. (may, refl, more)) c.write_read-written.result fault
+    (λ n is. gives_output old.files (Certify r) (line (codes "certified") (codes " blocks") n) 0 blank contents
+    (certified_read old.files blank contents n r c.args.fti.now left c.requires.opened.bytes c.requires.sizes
+    (committed c.write_read-written.result n (λ n. ReadsObject c.args.fti.now left (λ object. WritesCertificate object c.args.fti.now r.identity n blank contents)) is c.write_read-written.ensures.written)))
+    (because_uncertified_from old (g.H.Host.world c.commit.new.host) r c.args.fti.now left (g.H.Input.Read.sound c.args.input.now) c.requires.opened c.requires.length
+    c.write_read-written.result c.write_read-written.ensures.fault)
+    c.in_err-count.ensures.fault)
 
 pub returns-clause-ok : goal.returns-clause-ok
 returns-clause-ok g c =
+    let old = g.H.Host.world c.args.host.now in
     let r = c.args.request.now in
     let count = c.in_ok-count.count in
     let left = g.H.Input.Read.remaining c.args.input.now in
     let blank = g.H.Output.Write.contents c.in_ok-file.file in
     let contents = g.H.Output.Write.contents c.write_read-written.new.writer in
-    let read = committed c.write_read-written.result count (λ n. ReadsObject c.args.fti.now left (λ object. WritesCertificate object c.args.fti.now r.identity n blank contents))
-    c.in_ok-count.ensures.count c.write_read-written.ensures.written in
-    let object = read.object in
-    let s = read.holds in
-    let text = count_line (codes "certified") count (codes " blocks") in
-    let is = c.requires.sizes ∙ ap (λ (n : ℕ). sized r.sizes n) (sym read.form.count) in
-    record {
-      outcome = record { text = text; status = 0; output = Some (certificate_text (named_as r.identity s.0.certificate)) };
-      makes = record {
-        values = Bytes object ∷ [];
-        read = (gives_object (g.H.Host.world c.args.host.now).files r.object.now left object c.requires.opened.bytes read.all, tt);
-        gives = subst (λ (f : Fti). GivesCertificate r.identity object f (record { text = text; status = 0; output = Some (certificate_text (named_as r.identity s.0.certificate)) })) is
-            (s.0.certificate, s.0.form, s.0.fti, s.0.gives, s.0.certifies, (ap (λ (n : ℕ). count_line (codes "certified") n (codes " blocks")) s.1, refl, refl));
-        made = (
-          kept_whole (g.H.Host.world c.args.host.now).files (g.H.Host.world c.create.new.host).files (g.H.Host.world c.commit.new.host).files r.output.name.now (certificate_text (named_as r.identity s.0.certificate)) blank contents
-              c.in_ok-file.ensures.blank s.0.gained c.create.ensures.files c.in_ok-count.ensures.kept,
-          c.commit.ensures.created ∙ c.in_ok-file.ensures.created,
-          c.in_ok-file.ensures.free,
-        );
-      };
-      text = ap text_of (sym c.counted.ensures.told);
-      status = sym c.counted.ensures.status;
-      silent = c.commit.ensures.silent.printed ∙ c.create.ensures.silent.printed;
-    }
+    all_made old (g.H.Host.world c.create_file.new.self) (Certify r) r.output refl c.create_file.ensures.files c.create_file.ensures.silent c.in_ok-file.ensures.created
+    (g.H.Host.world c.commit.new.host) c.commit.ensures.silent c.commit.ensures.created (line (codes "certified") (codes " blocks") count) 0 blank contents c.in_ok-file.ensures.blank
+    (certified_read old.files blank contents count r c.args.fti.now left c.requires.opened.bytes c.requires.sizes
+    (committed c.write_read-written.result count (λ n. ReadsObject c.args.fti.now left (λ object. WritesCertificate object c.args.fti.now r.identity n blank contents))
+    c.in_ok-count.ensures.count c.write_read-written.ensures.written))
+    c.in_ok-count.ensures.kept c.in_ok-count.ensures.free _ (ap text_of (sym c.counted.ensures.told)) (sym c.counted.ensures.status)

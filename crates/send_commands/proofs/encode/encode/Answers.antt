@@ -12,7 +12,7 @@ returns-in_err-fti-in-Some-clause-fault g c =
     let w = g.H.Host.world c.args.host.now in
     let r = c.args.request.now in
     let fault = WrongFti c.in_err-fti-in-Some.field-0.0 in
-    let told = told_object w.files r.object.now _ c.in-Some.length c.in_ok-input.ensures.input.bytes c.in-Some.ensures in
+    let told = told_object w.files r.object.now _ c.in-Some.length c.in_ok-input.ensures.input.bytes c.in-Some.ensures.length in
     passed_on c.from_residual-in_err-fti-in-Some.result fault _ c.from_residual-in_err-fti-in-Some.ensures.1
     (stopped w (Encode r) fault (by_refused w w (Encode r) [] fault
     (told.0, told.1, ap (λ (m : ℕ). fti_fault (sized r.sending.sizes m)) told.2 ∙ c.in_err-fti-in-Some.ensures.fault)))

@@ -1,7 +1,7 @@
 use Rattle.std.proofs.Common.{ap}
 use Rattle.streams.proofs.AtOffsets.{cursor_start}
-use Rattle.check_commands.proofs.TwinnedFiles.{framed_told, unframed_told}
-use Rattle.check_commands.proofs.twin.pass_frames.Goals as goal
+use Rattle.commands.proofs.Passing.{framed_told, unframed_told}
+use Rattle.commands.proofs.frames.pass_frames.Goals as goal
 
 pub returns-clause-framed : goal.returns-clause-framed
 returns-clause-framed g c =

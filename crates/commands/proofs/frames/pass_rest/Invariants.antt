@@ -1,7 +1,7 @@
 use Rattle.std.proofs.Common.{◌≡◌, ℕ, List}
 use Rattle.std.specs.Io.KnownBytes.{Consumes}
 use Rattle.session.specs.Frames.{frames, AreDatagrams}
-use Rattle.check_commands.proofs.twin.pass_rest.Given as goal
+use Rattle.commands.proofs.frames.pass_rest.Given as goal
 
 abbrev pub invariant-loop-datagram : goal.invariant-loop-datagram
 invariant-loop-datagram g l = record {

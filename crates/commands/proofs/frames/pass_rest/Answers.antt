@@ -3,8 +3,8 @@ use Rattle.session.specs.Frames.{IsDatagram}
 use Rattle.session.proofs.Copies.{consumes_more, nothing_read, session_fault}
 use Rattle.session.proofs.Passing.{frames_end}
 use Rattle.session.proofs.Sessions.{datagrams_push}
-use Rattle.check_commands.proofs.TwinnedFiles.{no_datagrams, unframed_by}
-use Rattle.check_commands.proofs.twin.pass_rest.Goals as goal
+use Rattle.commands.proofs.Passing.{no_datagrams, unframed_by}
+use Rattle.commands.proofs.frames.pass_rest.Goals as goal
 
 pub loop-datagram-init : goal.loop-datagram-init
 loop-datagram-init g c = record { read = ([], nothing_read (g.R.Read.remaining c.args.frames.now), no_datagrams); stays = refl }
