@@ -102,6 +102,7 @@ fn begin<O: std::io::Write + Drop>(
         return;
     }
     tell_beforehand(rt, alloc, &line.request, host);
+    host.tell();
     if rt.stderr().is_terminal() && !may_print_between(rt, &line.request) {
         host.watch(rt.stdout().is_terminal());
     }

@@ -1,6 +1,7 @@
 //! The program's input files.
 ghost use Rattle.std.specs.Prelude.{None, false};
 
+use crate::state::FileState;
 use progress::Counted;
 use session::{Device, Failed, Read};
 use std::io::BufReader;
@@ -11,19 +12,31 @@ use streams::ReadAt;
 #[derive(Drop)]
 pub struct HostInput<'a, R> {
     device: Device<BufReader<Counted<'a, R>>>,
+    /// How the file was when it was opened, where it can be read at any offset.
+    opened: Option<FileState>,
 }
 
 impl<'a, R: Clock + Eprint> HostInput<'a, R> {
-    /// A file of which nothing was read.
-    pub(crate) fn new(reader: BufReader<Counted<'a, R>>) -> HostInput<'a, R> {
+    /// A file of which nothing was read, and how it is.
+    pub(crate) fn new(
+        reader: BufReader<Counted<'a, R>>,
+        opened: Option<FileState>,
+    ) -> HostInput<'a, R> {
         HostInput {
             device: Device::new(reader),
+            opened,
         }
     }
 
     /// How many bytes the file has, where that is known.
     pub(crate) fn length(&self) -> Option<u64> {
-        self.device.get_ref().get_ref().length()
+        self.opened.map(|opened| opened.length())
+    }
+
+    /// Whether the file is as it was when it was opened, as far as that can be seen.
+    pub(crate) fn is_unchanged(&self) -> bool {
+        let file = self.device.get_ref().get_ref().file();
+        self.opened.is_none() || FileState::of(file) == self.opened
     }
 }
 

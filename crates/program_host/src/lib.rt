@@ -1,7 +1,9 @@
 //! The program's host: the files that names lead to, standard input and standard output.
 //!
 //! - `program`: the host of commands, over the system's files; `input` and `output`: those files.
-//! - `parts`: what becomes a file: it is written beside its name, and takes that once it is whole.
+//! - `parts`: what becomes a file: it is written beside its name, and takes that once it is whole;
+//!   `rights`: who may read and write it then.
+//! - `state`: by what it is seen that a file has changed.
 //! - `last`: what was printed last, for the sentence on its cause.
 #![tactic(auto)]
 
@@ -10,6 +12,8 @@ mod last;
 mod output;
 mod parts;
 mod program;
+mod rights;
+mod state;
 
 pub use input::HostInput;
 pub use last::LastLine;

@@ -2,6 +2,7 @@
 ghost use Rattle.std.specs.Prelude.{◌≡◌, None, OnOk, OnErr, true, false};
 
 use crate::parts::Part;
+use crate::state::FileState;
 use session::{Device, Failed, Write};
 use std::fs::File;
 use std::io::{self, BufWriter, Seek, SeekFrom};
@@ -15,6 +16,8 @@ pub struct HostOutput {
     part: Option<Part>,
     // Whether a call has failed. From then on each does.
     failed: bool,
+    // How the last write at an offset left the file.
+    left: Option<FileState>,
 }
 
 impl HostOutput {
@@ -24,6 +27,7 @@ impl HostOutput {
             device: Device::new(writer),
             part,
             failed: false,
+            left: None,
         }
     }
 
@@ -45,14 +49,24 @@ impl HostOutput {
             device,
             part,
             failed: _,
+            left: _,
         } = self;
         let (file, _) = device.into_inner().into_parts();
         (file, part)
     }
 
+    fn file(&self) -> &File {
+        self.device.get_ref().get_ref()
+    }
+
+    // Whether the file is as the last write left it, as far as that can be seen.
+    fn is_unchanged(&self) -> bool {
+        self.left.is_none() || FileState::of(self.file()) == self.left
+    }
+
     // Whatever is written next stands behind the file's end, as that of an output that grows.
     fn set_file_len(&mut self, len: u64) -> io::Result<u64> {
-        let mut file = self.device.get_ref().get_ref();
+        let mut file = self.file();
         file.set_len(len)?;
         file.seek(SeekFrom::End(0))
     }
@@ -69,6 +83,7 @@ impl Write for HostOutput {
         if self.failed {
             return Err(Failed);
         }
+        self.left = None;
         match self.device.write(bytes) {
             Ok(n) => Ok(n),
             Err(_) => {
@@ -86,6 +101,7 @@ impl WriteAt for HostOutput {
 
     fn set_len(&mut self, len: u64) -> Result<(), Failed> {
         self.flush()?;
+        self.left = None;
         match self.set_file_len(len) {
             Ok(_) => Ok(()),
             Err(_) => {
@@ -97,8 +113,11 @@ impl WriteAt for HostOutput {
 
     fn write_at(&mut self, offset: u64, bytes: &[u8]) -> Result<usize, Failed> {
         self.flush()?;
-        match self.device.get_ref().get_ref().write_at(bytes, offset) {
-            Ok(n) if n > 0 || bytes.is_empty() => Ok(n),
+        match self.file().write_at(bytes, offset) {
+            Ok(n) if n > 0 || bytes.is_empty() => {
+                self.left = FileState::of(self.file());
+                Ok(n)
+            }
             _ => {
                 self.failed = true;
                 Err(Failed)
@@ -106,11 +125,12 @@ impl WriteAt for HostOutput {
         }
     }
 
+    // What another program has written meanwhile is no answer.
     fn read_back(&mut self, offset: u64, buf: &mut [u8]) -> Result<usize, Failed> {
         self.flush()?;
-        match self.device.get_ref().get_ref().read_at(buf, offset) {
-            Ok(n) => Ok(n),
-            Err(_) => {
+        match self.file().read_at(buf, offset) {
+            Ok(n) if self.is_unchanged() => Ok(n),
+            _ => {
                 self.failed = true;
                 Err(Failed)
             }

@@ -1,12 +1,14 @@
 //! Files beside those whose place they take.
 //!
-//! A part that is written is locked, and has the sticky bit, which says nothing of a file. A run
-//! that is killed leaves its part with the bit and without the lock. So another run can tell it
-//! from a part that is still written, and from any other file that has this name.
+//! A part has the sticky bit from the moment in which it is made, which says nothing of a file, and
+//! is locked while it is written. A run that is killed leaves its part with the bit and without the
+//! lock. So another run can tell it from a part that is still written, and from any other file that
+//! has this name.
+use crate::rights::Rights;
 use std::alloc::{AllocError, Global};
-use std::fs::{File, Metadata, OpenOptions, Permissions};
+use std::fs::{File, Metadata, OpenOptions, Permissions, TryLockError};
 use std::io::ErrorKind;
-use std::os::unix::fs::{MetadataExt, PermissionsExt};
+use std::os::unix::fs::{MetadataExt, OpenOptionsExt, PermissionsExt};
 use std::rt::Files;
 use std::{fs, io};
 
@@ -16,13 +18,18 @@ const MOST_PARTS: u8 = 100;
 /// The sticky bit.
 const MARK: u32 = 0o1000;
 
+/// Who may read and write a part: nobody but who writes it.
+const PRIVATE: u32 = 0o600;
+
+/// Who may read and write a new file, unless the user or the folder narrows it.
+const OPEN: u32 = 0o666;
+
 /// A file beside the one whose place it takes once it is kept.
 #[derive(Drop)]
 pub(crate) struct Part {
     name: String,
     target: String,
-    /// Who may read and write it then, where that is known.
-    permissions: Option<Permissions>,
+    rights: Rights,
     /// Whether it takes the name only where no file has it.
     no_clobber: bool,
 }
@@ -30,9 +37,7 @@ pub(crate) struct Part {
 impl Part {
     /// Gives the part its target's place; whether that went well. Until then it stays locked.
     pub(crate) fn keep<R: Files>(&self, rt: &R, file: &File) -> bool {
-        if let Some(permissions) = &self.permissions {
-            let _ = file.set_permissions(Permissions::from_mode(permissions.mode()));
-        }
+        self.rights.give(file);
         if self.no_clobber {
             self.link(rt)
         } else {
@@ -71,53 +76,72 @@ fn name_of_part(alloc: Global, name: &str, number: u8) -> Result<String, AllocEr
     }
 }
 
-// A new file of this name; none where the name is taken.
-fn create_free<R: Files<File = File>>(rt: &R, name: &str) -> io::Result<Option<File>> {
-    match File::create_new(rt, name) {
+// A new file of this name, with the mark and these rights; none where the name is taken.
+fn create_free<R: Files<File = File>>(rt: &R, name: &str, rights: u32) -> io::Result<Option<File>> {
+    let created = OpenOptions::new()
+        .read(true)
+        .write(true)
+        .create_new(true)
+        .mode(MARK | rights)
+        .open(rt, name);
+    match created {
         Ok(file) => Ok(Some(file)),
         Err(error) if error.kind() == ErrorKind::AlreadyExists => Ok(None),
         Err(error) => Err(error),
     }
 }
 
-// Whether this is a file with the mark of a part.
-fn is_marked(there: &Metadata) -> bool {
-    there.is_file() && there.mode() & MARK != 0
+// Whether a file with the mark of a part has this name.
+fn is_marked<R: Files>(rt: &R, name: &str) -> bool {
+    match fs::symlink_metadata(rt, name) {
+        Ok(there) => there.is_file() && there.mode() & MARK != 0,
+        Err(_) => false,
+    }
 }
 
-// Whether the marked file of this name is the one that was opened.
+// Whether this name is that of the file that was opened.
 fn leads_to<R: Files>(rt: &R, name: &str, file: &File) -> bool {
     match (fs::symlink_metadata(rt, name), file.metadata()) {
-        (Ok(named), Ok(opened)) => {
-            is_marked(&named) && named.dev() == opened.dev() && named.ino() == opened.ino()
-        }
+        (Ok(named), Ok(opened)) => named.dev() == opened.dev() && named.ino() == opened.ino(),
         _ => false,
     }
 }
 
 // Removes the part that a killed run has left under this name; whether there was one.
 fn remove_left<R: Files<File = File>>(rt: &R, name: &str) -> bool {
-    match fs::symlink_metadata(rt, name) {
-        Ok(there) if is_marked(&there) => {}
-        _ => return false,
+    if !is_marked(rt, name) {
+        return false;
     }
     let Ok(file) = OpenOptions::new().write(true).open(rt, name) else {
         return false;
     };
-    let is_left = file.try_lock().is_ok() && leads_to(rt, name, &file);
+    let is_left = file.try_lock().is_ok() && is_marked(rt, name) && leads_to(rt, name, &file);
     // The lock is held until the name is free.
     let is_removed = is_left && fs::remove_file(rt, name).is_ok();
     drop(file);
     is_removed
 }
 
-// A new file of this name, also in the place of what a killed run has left; none where the name is
+// Locks a new part; whether it still has its name. Before that another run may take it for one that
+// is left, and remove it. Where the file system has no locks none does, and a part stays for good
+// where its run is killed.
+fn hold<R: Files>(rt: &R, name: &str, file: &File) -> bool {
+    match file.try_lock() {
+        Err(TryLockError::WouldBlock) => false,
+        _ => leads_to(rt, name, file),
+    }
+}
+
+// A new part of this name, also in the place of what a killed run has left; none where the name is
 // taken.
-fn create_new<R: Files<File = File>>(rt: &R, name: &str) -> io::Result<Option<File>> {
-    match create_free(rt, name)? {
-        Some(file) => Ok(Some(file)),
-        None if remove_left(rt, name) => create_free(rt, name),
-        None => Ok(None),
+fn create_new<R: Files<File = File>>(rt: &R, name: &str, rights: u32) -> io::Result<Option<File>> {
+    let created = match create_free(rt, name, rights)? {
+        None if remove_left(rt, name) => create_free(rt, name, rights)?,
+        created => created,
+    };
+    match created {
+        Some(file) if hold(rt, name, &file) => Ok(Some(file)),
+        _ => Ok(None),
     }
 }
 
@@ -126,58 +150,41 @@ fn create_part<R: Files<File = File>>(
     rt: &R,
     alloc: Global,
     target: &str,
+    rights: u32,
 ) -> io::Result<(File, String)> {
     for number in 0..MOST_PARTS {
         let name = name_of_part(alloc, target, number)?;
-        if let Some(file) = create_new(rt, name.as_str())? {
+        if let Some(file) = create_new(rt, name.as_str(), rights)? {
             return Ok((file, name));
         }
     }
-    Err(io::Error::from(ErrorKind::AlreadyExists))
-}
-
-// Who may read and write a new file.
-fn permissions_of(file: &File) -> Option<Permissions> {
-    match file.metadata() {
-        Ok(there) => Some(there.permissions()),
-        Err(_) => None,
-    }
-}
-
-// Locks a new part and marks it. Where the file system has no locks it gets no mark, and is left
-// alone for good where this run is killed.
-fn begin(file: &File, permissions: &Permissions) {
-    let mode = permissions.mode();
-    let marked = match file.try_lock() {
-        Ok(()) => mode | MARK,
-        Err(_) => mode,
-    };
-    let _ = file.set_permissions(Permissions::from_mode(marked));
+    Err(io::Error::other("all names for its parts are taken, from .part to .part99"))
 }
 
 /// A new file beside the one of this name, under one that no other file has. Once it is kept it has
-/// these permissions, or else those of a new file. With `no_clobber` it is kept only where no file
-/// has the name by then.
+/// the rights of the file that it replaces, or else those of a new file. With `no_clobber` it is
+/// kept only where no file has the name by then.
 pub(crate) fn create_beside<R: Files<File = File>>(
     rt: &R,
     alloc: Global,
     target: &str,
-    permissions: Option<Permissions>,
+    replaced: Option<&Metadata>,
     no_clobber: bool,
 ) -> io::Result<(File, Part)> {
     let target = target.to_string(alloc)?;
-    let (file, name) = create_part(rt, alloc, target.as_str())?;
-    let permissions = match permissions {
-        Some(permissions) => Some(permissions),
-        None => permissions_of(&file),
+    // What a new file's rights are, only making one tells: the folder may have a say, too. Who can
+    // open it before it is made private may read what replaces nothing in any case.
+    let made = if replaced.is_some() { PRIVATE } else { OPEN };
+    let (file, name) = create_part(rt, alloc, target.as_str(), made)?;
+    let rights = match replaced {
+        Some(there) => Rights::of_replaced(there),
+        None => Rights::of_new(&file),
     };
-    if let Some(permissions) = &permissions {
-        begin(&file, permissions);
-    }
+    let _ = file.set_permissions(Permissions::from_mode(MARK | PRIVATE));
     let part = Part {
         name,
         target,
-        permissions,
+        rights,
         no_clobber,
     };
     Ok((file, part))

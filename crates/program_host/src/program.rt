@@ -8,13 +8,15 @@ use crate::input::HostInput;
 use crate::last::LastLine;
 use crate::output::HostOutput;
 use crate::parts::{Part, create_beside};
+use crate::state::FileState;
 use host::{FileFault, Host};
+use inspection::Name;
 use progress::{Counted, Progress};
 use request::Output;
 use session::{Device, Failed, write_all};
 use std::alloc::Global;
 use std::cell::Cell;
-use std::fs::{File, Metadata, OpenOptions, Permissions};
+use std::fs::{File, Metadata, OpenOptions};
 use std::io::{BufReader, BufWriter, ErrorKind};
 use std::rt::Files;
 use std::time::Clock;
@@ -38,6 +40,8 @@ pub struct ProgramHost<'a, R, O: std::io::Write + Drop> {
     out: Device<BufWriter<O>>,
     last: LastLine,
     took_input: Cell<bool>,
+    /// Whether sentences are wanted.
+    is_telling: bool,
     progress: &'a Progress,
 }
 
@@ -57,6 +61,7 @@ impl<'a, R, O: std::io::Write + Drop> ProgramHost<'a, R, O> {
             out,
             last: LastLine::new(),
             took_input: Cell::new(false),
+            is_telling: false,
             progress,
         }
     }
@@ -81,52 +86,32 @@ impl<'a, R, O: std::io::Write + Drop> ProgramHost<'a, R, O> {
     }
 }
 
-// A new file beside this name, which has these permissions once it is kept, or those of a new file.
+// A new file beside this name, in the place of this file, if there is one.
 fn create_anew<R: Files<File = File>>(
     rt: &R,
     alloc: Global,
     name: &str,
-    permissions: Option<Permissions>,
+    replaced: Option<&Metadata>,
     no_clobber: bool,
-) -> Result<(File, Option<Part>), FileFault> {
-    match create_beside(rt, alloc, name, permissions, no_clobber) {
-        Ok((file, part)) => Ok((file, Some(part))),
-        Err(error) if error.kind() == ErrorKind::OutOfMemory => Err(FileFault::NoMemory),
-        Err(_) => Err(FileFault::Io),
-    }
+) -> io::Result<(File, Option<Part>)> {
+    let (file, part) = create_beside(rt, alloc, name, replaced, no_clobber)?;
+    Ok((file, Some(part)))
 }
 
-// Fails where the file of this name may not be written.
-fn may_write<R: Files>(rt: &R, name: &str) -> Result<(), FileFault> {
-    match OpenOptions::new().write(true).open(rt, name) {
-        Ok(file) => {
-            drop(file);
-            Ok(())
-        }
-        Err(_) => Err(FileFault::Io),
-    }
-}
-
-// A new file that is to take the place of the one of this name.
+// A new file that is to take the place of the one of this name, if that may be written.
 fn create_instead<R: Files<File = File>>(
     rt: &R,
     alloc: Global,
     name: &str,
     there: &Metadata,
-) -> Result<(File, Option<Part>), FileFault> {
-    may_write(rt, name)?;
-    create_anew(rt, alloc, name, Some(there.permissions()), false)
+) -> io::Result<(File, Option<Part>)> {
+    drop(OpenOptions::new().write(true).open(rt, name)?);
+    create_anew(rt, alloc, name, Some(there), false)
 }
 
 // What has this name, which is no file, to be written straight.
-fn create_straight<R: Files<File = File>>(
-    rt: &R,
-    name: &str,
-) -> Result<(File, Option<Part>), FileFault> {
-    match fs::create(rt, name) {
-        Ok(file) => Ok((file, None)),
-        Err(_) => Err(FileFault::Io),
-    }
+fn create_straight<R: Files<File = File>>(rt: &R, name: &str) -> io::Result<(File, Option<Part>)> {
+    Ok((fs::create(rt, name)?, None))
 }
 
 // What a link leads to, to be written, so that a command may read the file that it replaces.
@@ -134,12 +119,12 @@ fn create_behind<R: Files<File = File>>(
     rt: &R,
     alloc: Global,
     link: &str,
-) -> Result<(File, Option<Part>), FileFault> {
+) -> io::Result<(File, Option<Part>)> {
     let name = match rt.canonicalize(alloc, link) {
         Ok(path) => path.into_string(),
         // It leads to nothing, so nothing is replaced.
         Err(error) if error.kind() == ErrorKind::NotFound => return create_straight(rt, link),
-        Err(_) => return Err(FileFault::Io),
+        Err(error) => return Err(error),
     };
     match fs::symlink_metadata(rt, name.as_str()) {
         Ok(there) if there.is_file() => create_instead(rt, alloc, name.as_str(), &there),
@@ -162,17 +147,21 @@ fn create<R: Files<File = File>>(
     alloc: Global,
     name: &str,
     no_clobber: bool,
-) -> Result<(File, Option<Part>), FileFault> {
+) -> io::Result<(File, Option<Part>)> {
     match fs::symlink_metadata(rt, name) {
-        Ok(_) if no_clobber => Err(FileFault::Io),
+        Ok(_) if no_clobber => Err(io::Error::other("it is there already, and stays")),
         Ok(there) if there.is_file() => create_instead(rt, alloc, name, &there),
         Ok(there) if there.is_symlink() => create_behind(rt, alloc, name),
         Ok(_) => create_straight(rt, name),
         Err(error) if error.kind() == ErrorKind::NotFound && !name.is_empty() => {
             create_anew(rt, alloc, name, None, no_clobber)
         }
-        Err(_) => Err(FileFault::Io),
+        Err(error) => Err(error),
     }
+}
+
+fn is_lack_of_memory(error: &io::Error) -> bool {
+    error.kind() == ErrorKind::OutOfMemory
 }
 
 impl<R: Files<File = File>, O: std::io::Write + Drop> ProgramHost<'_, R, O> {
@@ -185,6 +174,17 @@ impl<R: Files<File = File>, O: std::io::Write + Drop> ProgramHost<'_, R, O> {
             return Err(io::Error::from(ErrorKind::ResourceBusy));
         }
         fs::open(self.rt, INPUT_DEVICE)
+    }
+
+    fn create_output(&self, name: &str, no_clobber: bool) -> io::Result<HostOutput> {
+        let (file, part) = create(self.rt, self.alloc, name, no_clobber)?;
+        match BufWriter::with_capacity(self.alloc, BUFFER_SIZE, file) {
+            Ok(writer) => Ok(HostOutput::new(writer, part)),
+            Err(error) => {
+                self.remove(&part);
+                Err(error)
+            }
+        }
     }
 
     fn remove(&self, part: &Option<Part>) {
@@ -214,13 +214,32 @@ impl<R: Files<File = File> + Clock + Eprint, O: std::io::Write + Drop> ProgramHo
         if !output.no_clobber && is_straight(self.rt, output.name) {
             return false;
         }
-        match self.create_file(output.name, output.no_clobber) {
+        match self.create_output(output.name, output.no_clobber) {
             Ok(created) => {
                 self.give_up(created);
                 false
             }
-            Err(FileFault::Io) => true,
-            Err(FileFault::NoMemory) => false,
+            Err(error) => !is_lack_of_memory(&error),
+        }
+    }
+
+    /// From now on it is told at once where an output can't be created.
+    pub fn tell(&mut self)
+        ensures { self.new.out ≡ self.old.out }
+    {
+        self.is_telling = true;
+    }
+
+    // The command's line comes only once its inputs were read. By then who could mend it may be
+    // gone.
+    fn tell_uncreated(&self, name: &str, error: &io::Error) {
+        if self.is_telling {
+            self.progress.wipe(self.rt);
+            let shown = Name { text: name };
+            let _ = eprintln!(self.rt;
+                "alcrs: {shown} can't be created: {error}; what is left is done first, and then \
+                this is the fault if there is no other"
+            );
         }
     }
 }
@@ -238,9 +257,10 @@ impl<'a, R: Files<File = File> + Clock + Eprint, O: std::io::Write + Drop> Host
         let Ok(file) = self.open_input(name) else {
             return Err(FileFault::Io);
         };
+        let opened = FileState::of(&file);
         let counted = Counted::new(self.rt, self.alloc, self.progress, name, file);
         match BufReader::with_capacity(self.alloc, BUFFER_SIZE, counted) {
-            Ok(reader) => Ok(HostInput::new(reader)),
+            Ok(reader) => Ok(HostInput::new(reader, opened)),
             Err(_) => Err(FileFault::NoMemory),
         }
     }
@@ -249,13 +269,17 @@ impl<'a, R: Files<File = File> + Clock + Eprint, O: std::io::Write + Drop> Host
         input.length()
     }
 
+    fn is_unchanged(&self, input: &HostInput<'a, R>) -> bool {
+        input.is_unchanged()
+    }
+
     fn create_file(&mut self, name: &str, no_clobber: bool) -> Result<HostOutput, FileFault> {
-        let (file, part) = create(self.rt, self.alloc, name, no_clobber)?;
-        match BufWriter::with_capacity(self.alloc, BUFFER_SIZE, file) {
-            Ok(writer) => Ok(HostOutput::new(writer, part)),
-            Err(_) => {
-                self.remove(&part);
-                Err(FileFault::NoMemory)
+        match self.create_output(name, no_clobber) {
+            Ok(output) => Ok(output),
+            Err(error) if is_lack_of_memory(&error) => Err(FileFault::NoMemory),
+            Err(error) => {
+                self.tell_uncreated(name, &error);
+                Err(FileFault::Io)
             }
         }
     }

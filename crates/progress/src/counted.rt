@@ -53,9 +53,9 @@ impl<'a, R: Clock> Counted<'a, R> {
         Counted { file, meter }
     }
 
-    /// How many bytes it has, where that is known.
-    pub fn length(&self) -> Option<u64> {
-        length_of(&self.file)
+    /// The file itself.
+    pub fn file(&self) -> &File {
+        &self.file
     }
 }
 

@@ -1,0 +1,41 @@
+//! By what it is seen that a file has changed.
+use std::fs::{File, Metadata};
+use std::os::unix::fs::MetadataExt;
+
+/// Which file it is, its length, and when its bytes and its properties were changed last. Whoever
+/// puts the first time back changes the second. What is written to memory that has the file mapped
+/// needn't change either.
+#[derive(Clone, Copy, PartialEq, Eq)]
+pub(crate) struct FileState {
+    device: u64,
+    number: u64,
+    length: u64,
+    modified: (i64, i64),
+    changed: (i64, i64),
+}
+
+fn state_of(there: &Metadata) -> FileState {
+    FileState {
+        device: there.dev(),
+        number: there.ino(),
+        length: there.len(),
+        modified: (there.mtime(), there.mtime_nsec()),
+        changed: (there.ctime(), there.ctime_nsec()),
+    }
+}
+
+impl FileState {
+    /// How a file is now. A device or a pipe has no such state, nor has a file of the system's own,
+    /// whose bytes are made as they are read and which calls itself empty.
+    pub(crate) fn of(file: &File) -> Option<FileState> {
+        match file.metadata() {
+            Ok(there) if there.is_file() && there.len() > 0 => Some(state_of(&there)),
+            _ => None,
+        }
+    }
+
+    /// How many bytes the file has.
+    pub(crate) fn length(&self) -> u64 {
+        self.length
+    }
+}
