@@ -16,7 +16,7 @@ pub struct HostOutput {
     part: Option<Part>,
     // Whether a call has failed. From then on each does.
     failed: bool,
-    // How the last write at an offset left the file.
+    // How the last call with an offset or a length left the file.
     left: Option<FileState>,
 }
 
@@ -59,9 +59,18 @@ impl HostOutput {
         self.device.get_ref().get_ref()
     }
 
-    // Whether the file is as the last write left it, as far as that can be seen.
-    fn is_unchanged(&self) -> bool {
-        self.left.is_none() || FileState::of(self.file()) == self.left
+    // Passes on what the buffer holds back. Fails where another program has changed the file since
+    // it was left, as far as that can be seen.
+    fn flush_unchanged(&mut self) -> Result<(), Failed>
+        ensures works { OnOk result (self.new.failed ≡ false) }
+        ensures fails { OnErr result (self.new.failed ≡ true) }
+    {
+        self.flush()?;
+        if self.left.is_some() && FileState::of(self.file()) != self.left {
+            self.failed = true;
+            return Err(Failed);
+        }
+        Ok(())
     }
 
     // Whatever is written next stands behind the file's end, as that of an output that grows.
@@ -100,10 +109,12 @@ impl WriteAt for HostOutput {
     }
 
     fn set_len(&mut self, len: u64) -> Result<(), Failed> {
-        self.flush()?;
-        self.left = None;
+        self.flush_unchanged()?;
         match self.set_file_len(len) {
-            Ok(_) => Ok(()),
+            Ok(_) => {
+                self.left = FileState::of(self.file());
+                Ok(())
+            }
             Err(_) => {
                 self.failed = true;
                 Err(Failed)
@@ -112,7 +123,7 @@ impl WriteAt for HostOutput {
     }
 
     fn write_at(&mut self, offset: u64, bytes: &[u8]) -> Result<usize, Failed> {
-        self.flush()?;
+        self.flush_unchanged()?;
         match self.file().write_at(bytes, offset) {
             Ok(n) if n > 0 || bytes.is_empty() => {
                 self.left = FileState::of(self.file());
@@ -125,12 +136,11 @@ impl WriteAt for HostOutput {
         }
     }
 
-    // What another program has written meanwhile is no answer.
     fn read_back(&mut self, offset: u64, buf: &mut [u8]) -> Result<usize, Failed> {
-        self.flush()?;
+        self.flush_unchanged()?;
         match self.file().read_at(buf, offset) {
-            Ok(n) if self.is_unchanged() => Ok(n),
-            _ => {
+            Ok(n) => Ok(n),
+            Err(_) => {
                 self.failed = true;
                 Err(Failed)
             }
