@@ -4,8 +4,8 @@ in the sentence.
 
 Each case runs the program in a folder of its own, with copies of the samples. It tells the words,
 the status, how standard output's last line begins, and what the sentence on standard error has to
-say. Besides, it tries what is said behind refused lines, before a reception that can't be kept, and
-of progress. After `./alcrs` has built the program.
+say. Besides, it tries what is said behind refused lines, before a reception that can't be kept, at
+once of an output that can't be created, and of progress. After `./alcrs` has built the program.
 """
 import os
 import pty
@@ -255,6 +255,20 @@ LOST = [
 ]
 
 
+# What is said at once of an output that can't be created.
+UNMADE = [
+    (["encode", "note.txt", "no/out", *OF_NOTE, *NUMBERS],
+     "no/out can't be created: No such file or directory (os error 2); what is left is done first"),
+    (["encode", "note.txt", "folder", *OF_NOTE, *NUMBERS],
+     "folder can't be created: Is a directory"),
+    (["encode", "note.txt", "full.out", *OF_NOTE, *NUMBERS],
+     "full.out can't be created: all names for its parts are taken"),
+    (["decode", "note.session", "note.txt", *OF_NOTE, "-n"],
+     "note.txt can't be created: it is there already, and stays by --no-clobber"),
+    (["drop", "note.session", "no/\x1b[2J", "0"], "no/?[2J can't be created: No such file"),
+]
+
+
 def run(words, given=os.devnull):
     """Runs the program with a file, or a folder, as its standard input."""
     descriptor = os.open(given, os.O_RDONLY)
@@ -266,11 +280,28 @@ def run(words, given=os.devnull):
         os.close(descriptor)
 
 
+def at_once(said):
+    """What is said at once, if an output can't be created, and what is said at the end."""
+    first, _, rest = said.partition("\n")
+    return (first, rest) if " can't be created: " in first else ("", said)
+
+
+def is_told_at_once(case):
+    words, needle = case
+    ran = run(words)
+    said, _ = at_once(ran.stderr.decode())
+    is_told = ran.returncode == 1 and said.startswith("alcrs: " + needle)
+    is_told = is_told and not run([*words, "--quiet"]).stderr
+    if not is_told:
+        print(f"alcrs {' '.join(words)}: {ran.returncode}, {ran.stderr!r}")
+    return is_told
+
+
 def is_told(case):
     words, status, begins, needles, *given = case
     ran = run(words, *given)
     lines = ran.stdout.decode().splitlines()
-    said = ran.stderr.decode()
+    _, said = at_once(ran.stderr.decode())
     if ran.returncode != status or not lines or not lines[-1].startswith(begins):
         wrong = "the answer"
     elif needles is None:
@@ -369,6 +400,7 @@ def main():
         make_files()
         told = [is_told(case) for case in CASES] + [is_forewarned(case) for case in LOST]
         told += [is_refused(case) for case in REFUSED]
+        told += [is_told_at_once(case) for case in UNMADE]
         told.append(is_progress_told())
     print(f"{sum(told)} of {len(told)} causes are told")
     sys.exit(not all(told))

@@ -28,6 +28,9 @@ pub const BUFFER_SIZE: usize = 65536;
 /// The name of an input that is standard input.
 const STANDARD_INPUT: &str = "-";
 
+/// Why a file that is there already isn't created.
+const STAYS: &str = "it is there already, and stays by --no-clobber";
+
 /// Where standard input is opened.
 const INPUT_DEVICE: &str = "/dev/stdin";
 
@@ -149,7 +152,7 @@ fn create<R: Files<File = File>>(
     no_clobber: bool,
 ) -> io::Result<(File, Option<Part>)> {
     match fs::symlink_metadata(rt, name) {
-        Ok(_) if no_clobber => Err(io::Error::other("it is there already, and stays")),
+        Ok(_) if no_clobber => Err(io::Error::other(STAYS)),
         Ok(there) if there.is_file() => create_instead(rt, alloc, name, &there),
         Ok(there) if there.is_symlink() => create_behind(rt, alloc, name),
         Ok(_) => create_straight(rt, name),
@@ -230,15 +233,14 @@ impl<R: Files<File = File> + Clock + Eprint, O: std::io::Write + Drop> ProgramHo
         self.is_telling = true;
     }
 
-    // The command's line comes only once its inputs were read. By then who could mend it may be
-    // gone.
+    // The command's line may come much later, when it is too late to mend it.
     fn tell_uncreated(&self, name: &str, error: &io::Error) {
         if self.is_telling {
             self.progress.wipe(self.rt);
             let shown = Name { text: name };
             let _ = eprintln!(self.rt;
-                "alcrs: {shown} can't be created: {error}; what is left is done first, and then \
-                this is the fault if there is no other"
+                "alcrs: {shown} can't be created: {error}; what is left is done first, and this is \
+                the fault if there is no other"
             );
         }
     }
