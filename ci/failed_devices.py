@@ -198,8 +198,9 @@ class Call:
     def changes_nothing(self):
         # Without the length of a file that is open the object is held.
         asks_length = self.name == "statx" and not self.file
-        # Without a lock, or its mark, a part is written as well.
+        # Without a lock, its mark, or a look whether it is still there, a part is written as well.
         is_of_lock = self.name == "flock" or "chmod" in self.name
+        is_of_lock = is_of_lock or self.name == "statx" and self.file.startswith("out.part")
         return self.descriptor == "2" or self.name == "close" or is_of_lock or asks_length
 
     def faults(self, words):

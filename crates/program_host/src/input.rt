@@ -12,7 +12,7 @@ use streams::ReadAt;
 #[derive(Drop)]
 pub struct HostInput<'a, R> {
     device: Device<BufReader<Counted<'a, R>>>,
-    /// How the file was when it was opened, where it can be read at any offset.
+    /// How the file was when it was opened, where that is known.
     opened: Option<FileState>,
 }
 
@@ -28,15 +28,18 @@ impl<'a, R: Clock + Eprint> HostInput<'a, R> {
         }
     }
 
-    /// How many bytes the file has, where that is known.
+    /// How many bytes the file has, where that is known. A file of the system's own, whose bytes
+    /// are made as they are read, calls itself empty.
     pub(crate) fn length(&self) -> Option<u64> {
-        self.opened.map(|opened| opened.length())
+        match self.opened {
+            Some(opened) if opened.length() > 0 => Some(opened.length()),
+            _ => None,
+        }
     }
 
     /// Whether the file is as it was when it was opened, as far as that can be seen.
     pub(crate) fn is_unchanged(&self) -> bool {
-        let file = self.device.get_ref().get_ref().file();
-        self.opened.is_none() || FileState::of(file) == self.opened
+        !FileState::has_changed(self.opened, self.device.get_ref().get_ref().file())
     }
 }
 

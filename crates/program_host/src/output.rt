@@ -66,7 +66,7 @@ impl HostOutput {
         ensures fails { OnErr result (self.new.failed ≡ true) }
     {
         self.flush()?;
-        if self.left.is_some() && FileState::of(self.file()) != self.left {
+        if FileState::has_changed(self.left, self.file()) {
             self.failed = true;
             return Err(Failed);
         }

@@ -99,12 +99,8 @@ fn is_marked<R: Files>(rt: &R, name: &str) -> bool {
     }
 }
 
-// Whether this name is that of the file that was opened.
-fn leads_to<R: Files>(rt: &R, name: &str, file: &File) -> bool {
-    match (fs::symlink_metadata(rt, name), file.metadata()) {
-        (Ok(named), Ok(opened)) => named.dev() == opened.dev() && named.ino() == opened.ino(),
-        _ => false,
-    }
+fn is_other(one: &Metadata, two: &Metadata) -> bool {
+    one.dev() != two.dev() || one.ino() != two.ino()
 }
 
 // Removes the part that a killed run has left under this name; whether there was one.
@@ -115,11 +111,21 @@ fn remove_left<R: Files<File = File>>(rt: &R, name: &str) -> bool {
     let Ok(file) = OpenOptions::new().write(true).open(rt, name) else {
         return false;
     };
-    let is_left = file.try_lock().is_ok() && is_marked(rt, name) && leads_to(rt, name, &file);
+    let is_left = file.try_lock().is_ok() && is_marked(rt, name) && !is_lost(rt, name, &file);
     // The lock is held until the name is free.
     let is_removed = is_left && fs::remove_file(rt, name).is_ok();
     drop(file);
     is_removed
+}
+
+// Whether the name of an open file is seen to be no longer its own.
+fn is_lost<R: Files>(rt: &R, name: &str, file: &File) -> bool {
+    match fs::symlink_metadata(rt, name) {
+        Ok(named) => file
+            .metadata()
+            .is_ok_and(|opened| is_other(&named, &opened)),
+        Err(error) => error.kind() == ErrorKind::NotFound,
+    }
 }
 
 // Locks a new part; whether it still has its name. Before that another run may take it for one that
@@ -128,7 +134,7 @@ fn remove_left<R: Files<File = File>>(rt: &R, name: &str) -> bool {
 fn hold<R: Files>(rt: &R, name: &str, file: &File) -> bool {
     match file.try_lock() {
         Err(TryLockError::WouldBlock) => false,
-        _ => leads_to(rt, name, file),
+        _ => !is_lost(rt, name, file),
     }
 }
 

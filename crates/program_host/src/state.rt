@@ -25,12 +25,19 @@ fn state_of(there: &Metadata) -> FileState {
 }
 
 impl FileState {
-    /// How a file is now. A device or a pipe has no such state, nor has a file of the system's own,
-    /// whose bytes are made as they are read and which calls itself empty.
+    /// How a file is now, where the system tells it. A device or a pipe has no such state.
     pub(crate) fn of(file: &File) -> Option<FileState> {
         match file.metadata() {
-            Ok(there) if there.is_file() && there.len() > 0 => Some(state_of(&there)),
+            Ok(there) if there.is_file() => Some(state_of(&there)),
             _ => None,
+        }
+    }
+
+    /// Whether a file is seen to be another than it was.
+    pub(crate) fn has_changed(before: Option<FileState>, file: &File) -> bool {
+        match (before, FileState::of(file)) {
+            (Some(before), Some(now)) => before != now,
+            _ => false,
         }
     }
 
