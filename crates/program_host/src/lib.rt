@@ -1,12 +1,14 @@
 //! The program's host: the files that names lead to, standard input and standard output.
 //!
-//! - `program`: the host of commands, over the system's files; `input` and `output`: those files.
+//! - `program`: the host of commands, over the system's files; `input` and `output`: those files;
+//!   `creating`: what an output is, by what has its name.
 //! - `parts`: what becomes a file: it is written beside its name, and takes that once it is whole;
 //!   `rights`: who may read and write it then.
 //! - `state`: by what it is seen that a file has changed.
 //! - `last`: what was printed last, for the sentence on its cause.
 #![tactic(auto)]
 
+mod creating;
 mod input;
 mod last;
 mod output;

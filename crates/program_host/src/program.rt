@@ -4,19 +4,20 @@ ghost use Rattle.std.specs.Io.KnownBytes.{Keeps};
 ghost use Rattle.std.specs.Io.Buffered.{writer_buffer, writer_contents};
 ghost use Rattle.host.specs.Worlds.{untold};
 
+use crate::creating::{Wanted, is_lack_of_memory, is_straight};
 use crate::input::HostInput;
 use crate::last::LastLine;
-use crate::output::HostOutput;
-use crate::parts::{Part, create_beside};
+use crate::output::{HostOutput, Written};
+use crate::parts::Part;
 use crate::state::FileState;
-use host::{FileFault, Host};
+use host::{FileFault, Host, KeepFault};
 use inspection::Name;
 use progress::{Counted, Progress};
 use request::Output;
 use session::{Device, Failed, write_all};
-use std::alloc::Global;
+use std::alloc::{AllocError, Global};
 use std::cell::Cell;
-use std::fs::{File, Metadata, OpenOptions};
+use std::fs::File;
 use std::io::{BufReader, BufWriter, ErrorKind};
 use std::rt::Files;
 use std::time::Clock;
@@ -27,9 +28,6 @@ pub const BUFFER_SIZE: usize = 65536;
 
 /// The name of an input that is standard input.
 const STANDARD_INPUT: &str = "-";
-
-/// Why a file that is there already isn't created.
-const STAYS: &str = "it is there already, and stays by --no-clobber";
 
 /// Where standard input is opened.
 const INPUT_DEVICE: &str = "/dev/stdin";
@@ -89,85 +87,7 @@ impl<'a, R, O: std::io::Write + Drop> ProgramHost<'a, R, O> {
     }
 }
 
-// A new file beside this name, in the place of this file, if there is one.
-fn create_anew<R: Files<File = File>>(
-    rt: &R,
-    alloc: Global,
-    name: &str,
-    replaced: Option<&Metadata>,
-    no_clobber: bool,
-) -> io::Result<(File, Option<Part>)> {
-    let (file, part) = create_beside(rt, alloc, name, replaced, no_clobber)?;
-    Ok((file, Some(part)))
-}
-
-// A new file that is to take the place of the one of this name, if that may be written.
-fn create_instead<R: Files<File = File>>(
-    rt: &R,
-    alloc: Global,
-    name: &str,
-    there: &Metadata,
-) -> io::Result<(File, Option<Part>)> {
-    drop(OpenOptions::new().write(true).open(rt, name)?);
-    create_anew(rt, alloc, name, Some(there), false)
-}
-
-// What has this name, which is no file, to be written straight.
-fn create_straight<R: Files<File = File>>(rt: &R, name: &str) -> io::Result<(File, Option<Part>)> {
-    Ok((fs::create(rt, name)?, None))
-}
-
-// What a link leads to, to be written, so that a command may read the file that it replaces.
-fn create_behind<R: Files<File = File>>(
-    rt: &R,
-    alloc: Global,
-    link: &str,
-) -> io::Result<(File, Option<Part>)> {
-    let name = match rt.canonicalize(alloc, link) {
-        Ok(path) => path.into_string(),
-        // It leads to nothing, so nothing is replaced.
-        Err(error) if error.kind() == ErrorKind::NotFound => return create_straight(rt, link),
-        Err(error) => return Err(error),
-    };
-    match fs::symlink_metadata(rt, name.as_str()) {
-        Ok(there) if there.is_file() => create_instead(rt, alloc, name.as_str(), &there),
-        _ => create_straight(rt, link),
-    }
-}
-
-// Whether what has this name is written straight, as a pipe, a device or a link to nothing is.
-fn is_straight<R: Files>(rt: &R, name: &str) -> bool {
-    match fs::metadata(rt, name) {
-        Ok(there) => !there.is_file() && !there.is_dir(),
-        Err(_) => fs::symlink_metadata(rt, name).is_ok(),
-    }
-}
-
-// A file to be written, and where it goes if not straight to this name. With `no_clobber` whatever
-// has the name stays.
-fn create<R: Files<File = File>>(
-    rt: &R,
-    alloc: Global,
-    name: &str,
-    no_clobber: bool,
-) -> io::Result<(File, Option<Part>)> {
-    match fs::symlink_metadata(rt, name) {
-        Ok(_) if no_clobber => Err(io::Error::other(STAYS)),
-        Ok(there) if there.is_file() => create_instead(rt, alloc, name, &there),
-        Ok(there) if there.is_symlink() => create_behind(rt, alloc, name),
-        Ok(_) => create_straight(rt, name),
-        Err(error) if error.kind() == ErrorKind::NotFound && !name.is_empty() => {
-            create_anew(rt, alloc, name, None, no_clobber)
-        }
-        Err(error) => Err(error),
-    }
-}
-
-fn is_lack_of_memory(error: &io::Error) -> bool {
-    error.kind() == ErrorKind::OutOfMemory
-}
-
-impl<R: Files<File = File>, O: std::io::Write + Drop> ProgramHost<'_, R, O> {
+impl<'a, R: Files<File = File>, O: std::io::Write + Drop> ProgramHost<'a, R, O> {
     // The file of this name, or standard input, whose bytes come once: it isn't opened again.
     fn open_input(&self, name: &str) -> io::Result<File> {
         if name != STANDARD_INPUT {
@@ -179,15 +99,20 @@ impl<R: Files<File = File>, O: std::io::Write + Drop> ProgramHost<'_, R, O> {
         fs::open(self.rt, INPUT_DEVICE)
     }
 
-    fn create_output(&self, name: &str, no_clobber: bool) -> io::Result<HostOutput> {
-        let (file, part) = create(self.rt, self.alloc, name, no_clobber)?;
-        match BufWriter::with_capacity(self.alloc, BUFFER_SIZE, file) {
-            Ok(writer) => Ok(HostOutput::new(writer, part)),
-            Err(error) => {
-                self.remove(&part);
-                Err(error)
-            }
-        }
+    fn wanted(&self, name: &str, no_clobber: bool) -> Result<Wanted<'a, R>, AllocError> {
+        Ok(Wanted {
+            rt: self.rt,
+            alloc: self.alloc,
+            name: name.to_string(self.alloc)?,
+            no_clobber,
+        })
+    }
+
+    // Closes a file that isn't kept, and takes it away.
+    fn discard(&self, written: Written) {
+        let (file, part) = written.into_parts();
+        self.remove(&part);
+        drop(file);
     }
 
     fn remove(&self, part: &Option<Part>) {
@@ -211,15 +136,16 @@ impl<R: Files<File = File> + Clock + Eprint, O: std::io::Write + Drop> ProgramHo
 
     /// Whether a file of this name can't be created, as far as a try tells, which leaves nothing. A
     /// pipe or a device isn't tried, as that could take something from it.
-    pub fn refuses(&mut self, output: &Output<'_>) -> bool
-        ensures { self.new.out.failed ≡ self.old.out.failed }
-    {
+    pub fn refuses(&self, output: &Output<'_>) -> bool {
         if !output.no_clobber && is_straight(self.rt, output.name) {
             return false;
         }
-        match self.create_output(output.name, output.no_clobber) {
-            Ok(created) => {
-                self.give_up(created);
+        let Ok(wanted) = self.wanted(output.name, output.no_clobber) else {
+            return false;
+        };
+        match wanted.create() {
+            Ok(written) => {
+                self.discard(written);
                 false
             }
             Err(error) => !is_lack_of_memory(&error),
@@ -250,7 +176,7 @@ impl<'a, R: Files<File = File> + Clock + Eprint, O: std::io::Write + Drop> Host
     for ProgramHost<'a, R, O> {
     type Input = HostInput<'a, R>;
 
-    type Output = HostOutput;
+    type Output = HostOutput<'a, R>;
 
     // Nothing is told of files and output but whether the output has failed.
     ghost world = { λ host. untold host.out.failed };
@@ -275,21 +201,34 @@ impl<'a, R: Files<File = File> + Clock + Eprint, O: std::io::Write + Drop> Host
         input.is_unchanged()
     }
 
-    fn create_file(&mut self, name: &str, no_clobber: bool) -> Result<HostOutput, FileFault> {
-        match self.create_output(name, no_clobber) {
-            Ok(output) => Ok(output),
-            Err(error) if is_lack_of_memory(&error) => Err(FileFault::NoMemory),
+    fn create_file(
+        &mut self,
+        name: &str,
+        no_clobber: bool,
+    ) -> Result<HostOutput<'a, R>, AllocError> {
+        let wanted = self.wanted(name, no_clobber)?;
+        match wanted.create() {
+            Ok(written) => Ok(HostOutput::of(written)),
+            Err(error) if is_lack_of_memory(&error) => Err(AllocError),
             Err(error) => {
                 self.tell_uncreated(name, &error);
-                Err(FileFault::Io)
+                Ok(HostOutput::to_come(wanted))
             }
         }
     }
 
     // The file is closed last, as its lock keeps other runs from its name.
-    fn keep_file(&mut self, _name: &str, mut output: HostOutput) -> Result<(), FileFault> {
+    fn keep_file(
+        &mut self,
+        _name: &str,
+        _no_clobber: bool,
+        mut output: HostOutput<'a, R>,
+    ) -> Result<(), KeepFault> {
         let flushed = output.flush();
-        let (file, part) = output.into_parts();
+        let Some(written) = output.into_written() else {
+            return Err(KeepFault::Uncreated);
+        };
+        let (file, part) = written.into_parts();
         let is_kept = match &part {
             Some(part) => flushed.is_ok() && part.keep(self.rt, &file),
             None => flushed.is_ok(),
@@ -298,13 +237,13 @@ impl<'a, R: Files<File = File> + Clock + Eprint, O: std::io::Write + Drop> Host
             self.remove(&part);
         }
         drop(file);
-        if is_kept { Ok(()) } else { Err(FileFault::Io) }
+        if is_kept { Ok(()) } else { Err(KeepFault::Io) }
     }
 
-    fn give_up(&mut self, output: HostOutput) -> FileFault {
-        let (file, part) = output.into_parts();
-        self.remove(&part);
-        drop(file);
+    fn give_up(&mut self, output: HostOutput<'a, R>) -> FileFault {
+        if let Some(written) = output.into_written() {
+            self.discard(written);
+        }
         FileFault::Io
     }
 
