@@ -69,7 +69,7 @@ LINES = {
         1: rf"{REFUSALS}(?:{FRAMES}|fault file out\n)",
         3: REFUSALS + LACKS,
     },
-    "show": {0: f"(?:{SHOWN})*", 1: rf"(?:{SHOWN}|\d+ {PACKET}\n)+(?:{FRAMES})?|{FRAMES}"},
+    "show": {0: f"(?:{SHOWN})*", 1: rf"(?:{SHOWN}|\d+ {PACKET}\n)+|{FRAMES}"},
     "drop": {0: r"kept \d+ datagrams\n", 1: rf"fault S6 NoSuchPlace \d+\n|{FRAMES}"},
     "salvage": {0: r"kept \d+ datagrams\n", 1: r"kept \d+ datagrams\n"},
     "convert": {
@@ -148,8 +148,6 @@ def of_beginning(command, session):
         return 0, "complete after 4 datagrams\nobject 29 bytes\n"
     if command == "salvage":
         return 1 if rest else 0, f"kept {count} datagrams\n"
-    if command == "show" and count:
-        return None
     if rest:
         return 1, "fault S1 CutLength\n" if rest == 1 else "fault S2 CutDatagram\n"
     short = f"block 0 have {count} need 4\n"

@@ -275,8 +275,8 @@ IsUnhadPlace ranges values place = ⊥
 
 -- Why nothing does, though the inputs are there, and what was printed before: a frame can't be read
 -- behind others, or a session isn't as it was; an object's length makes no FTI, or its symbols are
--- too long; a certificate is another's; a session hasn't a place. Of a session that is shown nothing
--- is printed before its fault, unless the host may fail.
+-- too long; a certificate is another's; a session hasn't a place. Before a fault of a session that
+-- is shown nothing is printed, unless the host may fail.
 abbrev pub Refuses : World → Request → List ℕ → Fault → Type 0
 Refuses world (Check r) text (Frame fault) = (fault ≡ FrameIo → MayFail world)
     × (((world.files ≡ None) × (failed : Bool) × IsReadFault fault None None failed)

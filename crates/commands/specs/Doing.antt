@@ -51,8 +51,8 @@ IsUncreated world output fault = ⊥
 abbrev pub IsUnwritten : World → Fault → Fault → Type 0
 IsUnwritten world failure told = (told ≡ Memory) ⊎ ((told ≡ failure) × MayFail world)
 
--- Why what was to be written isn't kept: for the fault of what was written; or as writing or keeping
--- has failed; or, where all was written, as the output isn't created.
+-- Why what was to be written isn't kept: for the fault of what was written; or as writing or
+-- keeping has failed; or, where all was written, as the output isn't created.
 abbrev pub IsUncommitted : World → Output → Result ℕ Unwritten → Fault → Fault → Type 0
 IsUncommitted world output (Ok count) failure told =
     IsUncreated world output told ⊎ IsUnwritten world failure told

@@ -143,8 +143,8 @@ abbrev pub IsGivenUp : World → World → Request → Type 0
 IsGivenUp old new (Follow r) = (new.files ≡ old.files) × MayHaveCreated old new (Follow r)
 IsGivenUp old new r = ⊥
 
--- Printing has failed: nothing was done, or all but what is printed; or an output was asked for, for
--- what was received, and no object is there, which can't be told.
+-- Printing has failed: nothing was done, or all but what is printed; or an output was asked for,
+-- for what was received, and no object is there, which can't be told.
 pub record IsUnprinted (old new : World) (r : Request) : Type 0 where
   pub failed : new.failed ≡ true
   pub done : ((new.files ≡ old.files) × (new.created ≡ old.created))

@@ -38,7 +38,7 @@ IsUnframed content reliable (Frame fault) = IfSome content (StopsAt fault)
 IsUnframed content reliable Memory = ⊤
 IsUnframed content reliable fault = ⊥
 
--- the file of this name isn't as it was when it was opened, which is so only where the host may fail
+-- the file of this name isn't as it was when it was opened, as is so only where the host may fail
 abbrev pub HasChanged : World → List ℕ → Fault → Type 0
 HasChanged world name (File read) = (read.now ≡ name) × (MayFail world)
 HasChanged world name fault = ⊥

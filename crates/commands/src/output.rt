@@ -40,8 +40,8 @@ pub fn if_unchanged<'a, T: Drop, H: Host>(
 }
 
 /// Keeps what was written under its output's name, or gives it up where it wasn't written to its
-/// end. That the output can't be created is told where all was written. `failure` tells that writing
-/// or keeping has failed, where it isn't for want of memory.
+/// end. That the output can't be created is told where all was written. `failure` tells that
+/// writing or keeping has failed, where it isn't for want of memory.
 pub fn commit<'a, H: Host>(
     host: &mut H,
     output: &Output<'a>,

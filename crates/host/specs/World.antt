@@ -78,8 +78,8 @@ abbrev pub IsToStay : Option Files → List ℕ → Bool → Type 0
 IsToStay files name no_clobber =
     (no_clobber ≡ true) × IfSome files (λ held. IsSome (held name))
 
--- why what was written isn't kept: its file couldn't be created, as one is there that is to stay, or
--- the host may fail; or writing or keeping has failed, as the host may; or there is no memory
+-- why what was written isn't kept: its file couldn't be created, as one is there that is to stay,
+-- or the host may fail; or writing or keeping has failed, as the host may; or there is no memory
 abbrev pub IsKeepFault : World → List ℕ → Bool → KeepFault → Type 0
 IsKeepFault world name no_clobber keep.Uncreated =
     MayFail world ⊎ IsToStay world.files name no_clobber

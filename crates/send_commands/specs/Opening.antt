@@ -56,7 +56,8 @@ IsUnappendedOne left (unwritten.Fault (Frame fault)) =
     (fault ≢ Io) × (fault ≢ NoMemory) × (failed : Bool) × IsSessionFault fault left failed
 IsUnappendedOne left unwritten = ⊥
 
--- the sessions that these inputs are were written, one after the other; how many datagrams they have
+-- the sessions that these inputs are were written, one after the other; how many datagrams they
+-- have
 pub record AreAppended (files : Option Files) (inputs : List Input)
     (before after : Option (List ℕ)) (count : ℕ) : Type 0 where
   pub lists : List (List (List ℕ))

@@ -1,6 +1,6 @@
 //! The command `join`.
-ghost use Rattle.std.specs.Prelude.{◌≡◌, ◌<◌, ◌⊎◌, ◌∷◌, ℕ, map, length, false, Some, None, Ok, Err, IfOk};
-ghost use Rattle.std.specs.Prelude.{IfErr};
+ghost use Rattle.std.specs.Prelude.{◌≡◌, ◌<◌, ◌⊎◌, ◌∷◌, ℕ, map, length, false, Some, None, Ok};
+ghost use Rattle.std.specs.Prelude.{Err, IfOk, IfErr};
 ghost use Rattle.request.specs.declared.requests.Request.TheVariants.{Join};
 ghost use Rattle.host.specs.World.{GivesFile};
 ghost use Rattle.streams.specs.Changes.{writer_change};
