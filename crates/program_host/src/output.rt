@@ -13,6 +13,7 @@ use streams::WriteAt;
 
 /// A file that is written: beside its name until it is kept, or, where a device or a pipe has that,
 /// straight.
+#[derive(Drop)]
 pub(crate) struct Written {
     device: Device<BufWriter<File>>,
     part: Option<Part>,
@@ -141,7 +142,7 @@ impl<'a, R> HostOutput<'a, R> {
     // Notes whether a call has failed.
     fn noted<T: Drop>(&mut self, outcome: Result<T, Failed>) -> Result<T, Failed>
         requires { self.old.failed ≡ false }
-        ensures same { result ≡ outcome.entry }
+        ensures same { result ≡ outcome }
         ensures works { OnOk result (self.new.failed ≡ false) }
         ensures fails { OnErr result (self.new.failed ≡ true) }
     {
