@@ -113,7 +113,7 @@ pub unjoined : (w : World) (names : List (Bor (List ℕ))) (opened : List (Optio
     (writer : WriterChange) → AreOpen w.files (texts names) opened
     → IsUnjoined turns fault opened sound failed writer → fault ≢ Io → fault ≢ NoMemory → IsFirstUnread w (sessions names) (Frame fault)
 unjoined w names opened turns fault sound failed writer are why io memory = elim why.because [
-  | inl blamed ↦ unread_at w names opened blamed.place _ fault are blamed.inside io memory blamed.because (blamed.first io memory)
+  | inl blamed ↦ unread_at w names opened blamed.place _ fault are blamed.inside io memory blamed.because (blamed.first memory)
   | inr others ↦ elim others [
     | inl full ↦ absurd (io full.0)
     | inr none ↦ absurd (memory none)
