@@ -6,10 +6,11 @@ Each command runs once as it is, and then once for each of its calls, which fail
 more with EINTR. A run ends well with status 1 and the line of the fault that fits the call: the
 output is what it was, and no part of it is left. Where standard output fails, there is no line, and
 the output may be whole; where standard error does, a file is closed or its access rights are set,
-nothing changes. An interruption may also be passed over. Then each command runs with reads and
-writes that move 1 to 7 bytes at a time, which changes nothing, and with standard input, output and
-error closed, so that files get their numbers: no input changes, and the output is whole or what it
-was. A C compiler, `cc`, builds the library that fails. After `./alcrs` has built the program.
+nothing changes. An interruption may also be passed over, and so may a call that creates the output,
+which is tried twice. Then each command runs with reads and writes that move 1 to 7 bytes at a time,
+which changes nothing, and with standard input, output and error closed, so that files get their
+numbers: no input changes, and the output is whole or what it was. A C compiler, `cc`, builds the
+library that fails. After `./alcrs` has built the program.
 """
 import os
 import subprocess
@@ -203,6 +204,10 @@ class Call:
         is_of_lock = is_of_lock or self.name == "statx" and self.file.startswith("out.part")
         return self.descriptor == "2" or self.name == "close" or is_of_lock or asks_length
 
+    def creates(self):
+        """Whether it is one by which the output is created, which is tried twice."""
+        return self.name.startswith(("open", "statx")) and self.file.startswith("out")
+
     def faults(self, words):
         """The lines that may tell that it failed."""
         moves = self.name.strip("_").startswith(
@@ -212,7 +217,7 @@ class Call:
         if self.name.startswith(("rename", "fsync")):
             return [written]
         if self.file.startswith("out"):
-            return [written] if moves else ["fault open out"]
+            return [written]
         if not moves:
             return [f"fault open {self.file}"]
         place = words[1:].index(self.file)
@@ -220,15 +225,6 @@ class Call:
         # A symbol that `check` or `twin` reads again, where it stands.
         is_again = words[0] in CHECKING and place == 0 and self.name.startswith("pread")
         return told + [OBJECT.format(self.file)] * is_again
-
-
-def tries_of(words, calls):
-    """How many calls `follow` makes before it opens its session: with them it tries whether `out`
-    can be made.
-    """
-    if words[:1] != ["follow"]:
-        return 0
-    return next((place for place, call in enumerate(calls) if call.file == words[1]), 0)
 
 
 def is_read_behind(words, call, whole):
@@ -242,10 +238,13 @@ def is_told(words, call, whole, ran):
     """Whether a run tells what the failed call comes to."""
     status, output, messages, left, parts = ran
     if call.changes_nothing():
-        return (status, output, left, parts) == (whole[0], whole[1], whole[3], whole[4])
+        # A file without a length is shown as a pipe is.
+        shown = whole[1] if words[:1] == ["show"] and output.endswith(whole[1]) else output
+        return (status, shown, left, parts) == (whole[0], whole[1], whole[3], whole[4])
     if call.name.startswith("unlink"):
-        # What can't be removed stays.
-        return (status, output, left, parts) == (whole[0], whole[1], whole[3], ["out.part"])
+        # What can't be removed stays, unless the next part takes its place.
+        is_same = (status, output, left) == (whole[0], whole[1], whole[3])
+        return is_same and parts in ([], ["out.part"])
     if status != 1 or messages != whole[2] or parts:
         return False
     if call.descriptor == "1":
@@ -309,8 +308,8 @@ def main():
             )
             for (place, error), ran in zip(tries, answers):
                 call = calls[place - 1]
-                # What fails in a try changes no answer.
-                if place <= tries_of(words, calls) and ran == whole:
+                # The output is created all the same, and only a sentence tells of it.
+                if call.creates() and (ran[:2], ran[3:]) == (whole[:2], whole[3:]):
                     continue
                 # Behind its last line the program looks at files again for the cause: that changes
                 # no answer.

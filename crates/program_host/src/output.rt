@@ -58,7 +58,7 @@ impl Written {
     // it was left, as far as that can be seen.
     fn flush_unchanged(&mut self) -> Result<(), Failed> {
         self.device.flush()?;
-        if self.left.is_some() && FileState::of(self.file()) != self.left {
+        if FileState::has_changed(self.left, self.file()) {
             return Err(Failed);
         }
         Ok(())
