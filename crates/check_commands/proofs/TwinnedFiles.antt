@@ -398,22 +398,22 @@ module _ (r : TwinRequest) (short : ShortBlock) where
 
   unwritten_because : (old new : World) → IsFoundIn old.files r (No (Thin short.block short.have short.need)) (Some short) → (content : Option (List ℕ)) (reliable : Bool) → GivesFile old r.object.now content reliable
       → (fault : Fault) → IsUntwinned short.fti.transfer_length content reliable r.object.now (unwritten.Fault fault) → IsBecause old new (Twin r) [] fault
-  unwritten_because old new found content reliable given (told_as.Open n) h = absurd h
+  unwritten_because old new found content _ given (told_as.Open n) h = absurd h
   unwritten_because old new found content reliable given (told_as.File n) h =
       let value = a_value old.files found in
       by_unread old new (Twin r) [] (told_as.File n) (inr (value.0, value.1, inl (h.0, lost old old.files refl found content reliable given h.1)))
-  unwritten_because old new found content reliable given told_as.Memory h = tt
-  unwritten_because old new found content reliable given (told_as.Frame e) h = absurd h
-  unwritten_because old new found content reliable given (told_as.Certificate e) h = absurd h
-  unwritten_because old new found content reliable given (told_as.Fti e) h = absurd h
-  unwritten_because old new found content reliable given (told_as.Send e) h = absurd h
-  unwritten_because old new found content reliable given (told_as.NoPlace n) h = absurd h
+  unwritten_because old new found content _ given told_as.Memory h = tt
+  unwritten_because old new found content _ given (told_as.Frame e) h = absurd h
+  unwritten_because old new found content _ given (told_as.Certificate e) h = absurd h
+  unwritten_because old new found content _ given (told_as.Fti e) h = absurd h
+  unwritten_because old new found content _ given (told_as.Send e) h = absurd h
+  unwritten_because old new found content _ given (told_as.NoPlace n) h = absurd h
 
   pub unwritten_why : (old new : World) → IsFoundIn old.files r (No (Thin short.block short.have short.need)) (Some short) → (content : Option (List ℕ)) (reliable : Bool) → GivesFile old r.object.now content reliable
       → (written : Result ℕ Unwritten) → IfErr written (IsUntwinned short.fti.transfer_length content reliable r.object.now)
       → (fault : Fault) → written ≡ Err (unwritten.Fault fault) → IsBecause old new (Twin r) [] fault
   unwritten_why old new found content reliable given written h fault is =
-      unwritten_because old new found content reliable given fault
+      unwritten_because old new found content _ given fault
       (subst (λ (x : Result ℕ Unwritten). IfErr x (IsUntwinned short.fti.transfer_length content reliable r.object.now)) is h)
 
   -- or what was read for it has changed since
