@@ -413,7 +413,7 @@ module _ (r : TwinRequest) (short : ShortBlock) where
       → (written : Result ℕ Unwritten) → IfErr written (IsUntwinned short.fti.transfer_length content reliable r.object.now)
       → (fault : Fault) → written ≡ Err (unwritten.Fault fault) → IsBecause old new (Twin r) [] fault
   unwritten_why old new found content reliable given written h fault is =
-      unwritten_because old new found content _ given fault
+      unwritten_because old new found content reliable given fault
       (subst (λ (x : Result ℕ Unwritten). IfErr x (IsUntwinned short.fti.transfer_length content reliable r.object.now)) is h)
 
   -- or what was read for it has changed since
