@@ -35,6 +35,7 @@ use Rattle.encoder.specs.declared.sending.SendFault.TheVariants.{SymbolTooLong, 
 use Rattle.request.specs.declared.requests.Sizes.{Sizes}
 use Rattle.request.specs.declared.requests.Output.{Output}
 use Rattle.request.specs.declared.requests.Sending.{Sending}
+use Rattle.request.specs.declared.requests.ShowRequest.{ShowRequest}
 use Rattle.request.specs.declared.requests.Request.{Request}
 use Rattle.request.specs.declared.requests.Request.TheVariants.{Check, Twin, Show, Encode, Certify}
 use Rattle.request.specs.declared.requests.Request.TheVariants.{Convert, Decode, Follow, Drop}
@@ -273,10 +274,19 @@ IsUnhadPlace ranges (Places more ∷ Datagrams datagrams ∷ []) place =
     first_unhad (length datagrams) (ranges ++ more) ≡ Some place
 IsUnhadPlace ranges values place = ⊥
 
+-- behind the lines of just the datagrams before it, no frame can be read
+abbrev pub IsCutBehindLines : World → ShowRequest → List ℕ → Fault → Type 0
+IsCutBehindLines world r text (Frame fault) =
+    (opened : Option (List ℕ)) × (left : Option (List ℕ)) × (readings : List Reading)
+    × (new : Option (List ℕ)) × (failed : Bool)
+    × HasValue world.files (AStream r.session.now) (Opened opened) × AreReadAs opened left readings
+    × (text ≡ told_before r.summary readings) × IsReadFault fault left new failed
+IsCutBehindLines world r text fault = ⊥
+
 -- Why nothing does, though the inputs are there, and what was printed before: a frame can't be read
 -- behind others, or a session isn't as it was; an object's length makes no FTI, or its symbols are
 -- too long; a certificate is another's; a session hasn't a place. Before a fault of a session that
--- is shown nothing is printed, unless the host may fail.
+-- is shown nothing is printed, or, where the host may fail, the lines of the datagrams before it.
 abbrev pub Refuses : World → Request → List ℕ → Fault → Type 0
 Refuses world (Check r) text (Frame fault) = (fault ≡ FrameIo → MayFail world)
     × (((world.files ≡ None) × (failed : Bool) × IsReadFault fault None None failed)
@@ -287,7 +297,8 @@ Refuses world (Check r) text (Frame fault) = (fault ≡ FrameIo → MayFail worl
     × IsRefusedBehind r.identity fault opened left failed object z))
 Refuses world (Check r) text (File session) = (session.now ≡ r.session.now) × MayFail world
 Refuses world (Show r) text fault =
-    IsUnread world (ASession r.session.now) fault × ((text ≡ []) ⊎ MayFail world)
+    IsUnread world (ASession r.session.now) fault
+    × ((text ≡ []) ⊎ (MayFail world × IsCutBehindLines world r text fault))
 Refuses world (Follow r) text (Frame fault) =
     (left : Option (List ℕ)) × (new : Option (List ℕ)) × (failed : Bool)
     × IsReadFault fault left new failed × (fault ≡ FrameIo → MayFail world)

@@ -136,7 +136,7 @@ module _ (old : World) (r : ShowRequest) (each : r.summary ≡ false) (opened : 
     numbered reading_text 0 rs,
     printed,
     stopped_so left rs (Frame e) (ds, read, all)
-        (by_refused old new (Show r) (numbered reading_text 0 rs) (Frame e) (read_stops old r.session.now opened left rest failed ds e held read why fails, inr may)),
+        (by_refused old new (Show r) (numbered reading_text 0 rs) (Frame e) (read_stops old r.session.now opened left rest failed ds e held read why fails, inr (may, (opened, left, rs, rest, failed, held, (ds, read, all), told rs, why)))),
   )
 
   stops : (e : FrameFault) → e ≢ frame_fault.Io → e ≢ frame_fault.NoMemory → IsCutBehind e opened old new → IfSome opened (StopsAt e)

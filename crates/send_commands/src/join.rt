@@ -211,8 +211,8 @@ fn open_all<'a, H: Host>(
 
 // The files before one that isn't opened, if there are some.
 fn up_to<'a, I: Drop>(inputs: Vec<I>, fault: Fault<'a>) -> Result<OpenedFiles<'a, I>, Fault<'a>>
-    ensures ok { IfOk result (λ files. (files.inputs ≡ inputs) × (files.unopened ≡ Some fault.entry)
-        × (0 < length inputs.items)) }
+    ensures ok { IfOk result (λ files. (files.inputs ≡ inputs)
+        × (files.unopened ≡ Some fault.entry) × (0 < length inputs.items)) }
     ensures fault { IfErr result (λ e. (e ≡ fault.entry) × (length inputs.items ≡ 0)) }
 {
     if inputs.is_empty() {
