@@ -2,11 +2,17 @@
 """Tries ./alcrs as it is run the first time, with a stub in place of the toolchain.
 
 The stub proves nothing, and takes a while for each crate. It notes where a library below isn't
-there. Tried are: a run from nothing; a second call meanwhile, which has to wait; a source that is
-newer, with other text and with the same; a proof that fails once, and one that fails again; Ctrl-C,
+there. Tried are: a run from nothing; a second call meanwhile, which has to wait; a source with
+other text, and one that is newer alone; a proof that fails once, and one that fails again; Ctrl-C,
 after which nothing may run on, and what was proved may not be proved again; the libraries alone,
 for capi/archive; and a toolchain whose `rattle` lacks a flag, in which `rt` has to do it all.
+
+Of a program in release/, which is a stub, too, tried are: a run without the toolchain; a clone that
+can't be written into; --from-source; a source with one space more; and packed programs and a
+manifest that are damaged or missing.
 """
+import gzip
+import hashlib
 import os
 import shutil
 import signal
@@ -17,6 +23,7 @@ import time
 from pathlib import Path
 
 ROOT = Path(__file__).resolve().parent.parent
+LEVELS = ("x86-64-v2", "x86-64-v3")
 STUB = r'''#!/usr/bin/env python3
 import os, pathlib, shutil, sys, time
 words, tree = sys.argv, os.environ["TREE"]
@@ -60,6 +67,9 @@ class Tree:
         self.folder = Path(folder)
         for name in ("alcrs", "crates.txt", "HANDLES"):
             shutil.copy(ROOT / name, self.folder / name)
+        for name in ("sum", "program"):
+            (self.folder / "release").mkdir(exist_ok=True)
+            shutil.copy(ROOT / "release" / name, self.folder / "release" / name)
         shutil.copytree(ROOT / "scripts", self.folder / "scripts")
         for source in ROOT.glob("crates/*/src"):
             shutil.copytree(source, self.folder / source.relative_to(ROOT))
@@ -72,17 +82,30 @@ class Tree:
         path = f"{self.folder / 'bin'}:{os.environ['PATH']}"
         return {**os.environ, "PATH": path, "TREE": str(self.folder), "SLEEP": sleep, **settings}
 
-    def start(self, sleep="0.02", **settings):
+    def start(self, *words, sleep="0.02", **settings):
         return subprocess.Popen(
-            [self.folder / "alcrs", "check"], env=self.settings(sleep, **settings),
-            start_new_session=True, stderr=subprocess.PIPE, text=True,
+            [self.folder / "alcrs", *words, "check"], env=self.settings(sleep, **settings),
+            start_new_session=True, stderr=subprocess.PIPE, stdout=subprocess.PIPE, text=True,
         )
 
-    def run(self, **settings):
-        """The status of a run, and what it said."""
-        run = self.start(**settings)
-        said = run.communicate()[1]
+    def run(self, *words, **settings):
+        """The status of a run, and what it said on standard error."""
+        run = self.start(*words, **settings)
+        self.printed, said = run.communicate()
         return run.returncode, said
+
+    def ship(self):
+        """Puts a program into release/ that tells its name."""
+        program = b"#!/bin/sh\necho shipped $*\n"
+        lines = [f"{level} {hashlib.sha256(program).hexdigest()}" for level in LEVELS]
+        sources = subprocess.run([self.folder / "release" / "sum"], capture_output=True, text=True)
+        lines.append(f"sources {sources.stdout.strip()}")
+        (self.folder / "release" / "MANIFEST").write_text("\n".join(lines) + "\n")
+        for level in LEVELS:
+            self.packed(level).write_bytes(gzip.compress(program))
+
+    def packed(self, level):
+        return self.folder / "release" / f"alcrs-{level}.gz"
 
     def libraries(self):
         """The status of proving the libraries alone."""
@@ -99,7 +122,7 @@ class Tree:
         return names
 
     def clear(self):
-        for out in self.folder.glob("crates/*/out"):
+        for out in (*self.folder.glob("crates/*/out"), *self.folder.glob("out")):
             shutil.rmtree(out)
         self.started()
 
@@ -117,6 +140,52 @@ class Tree:
 def expect(what, holds, told=""):
     if not holds:
         sys.exit(f"first_run.py: not so: {what}\n{told}")
+
+
+def try_shipped(tree, every):
+    """Tries what comes of a program in release/."""
+
+    def expect_shipped(what, **settings):
+        status, said = tree.run(PATH="/usr/bin:/bin", **settings)
+        expect(what, (status, tree.printed, said) == (0, "shipped check\n", ""), said)
+        expect("nothing is built then", not tree.started())
+
+    def expect_built(what, told, *words):
+        tree.clear()
+        status, said = tree.run(*words)
+        expect(what, status == 0 and tree.printed == "" and told in said, said)
+        expect("all is built then", sorted(tree.started()) == sorted(every))
+        expect("it is built once", tree.run(*words) == (0, "") and not tree.started())
+
+    tree.clear()
+    tree.ship()
+    expect_shipped("what is shipped runs without the toolchain")
+    expect_shipped("it runs again")
+    for level in LEVELS:
+        (tree.folder / "out" / f"alcrs-{level}").write_text("something else")
+    expect_shipped("it is unpacked anew where it was changed")
+    tree.clear()
+    (tree.folder / "out").write_text("no folder")
+    expect_shipped("it is unpacked elsewhere", XDG_CACHE_HOME=str(tree.folder / "cache"))
+    os.remove(tree.folder / "out")
+
+    expect_built("--from-source", "proving and building", "--from-source")
+    expect_shipped("it doesn't stay so")
+    for level in LEVELS:
+        packed = bytearray(tree.packed(level).read_bytes())
+        packed[-9] ^= 1
+        tree.packed(level).write_bytes(packed)
+    expect_built("a damaged program", "hasn't the sum that release/MANIFEST tells")
+    for level in LEVELS:
+        os.remove(tree.packed(level))
+    expect_built("a program that is missing", "hasn't the sum that release/MANIFEST tells")
+    tree.ship()
+    os.remove(tree.folder / "release" / "MANIFEST")
+    expect_built("no manifest", "is of other sources")
+    tree.ship()
+    source = tree.folder / "crates/lists/src/lib.rt"
+    source.write_bytes(source.read_bytes() + b" ")
+    expect_built("a source with one space more", "is of other sources")
 
 
 def main():
@@ -138,10 +207,10 @@ def main():
         os.utime(changed)
         status, said = tree.run()
         again = tree.started()
-        expect("what is the same isn't", again == ["alcrs"], (status, again, said))
+        expect("what is the same isn't", again == [], (status, again, said))
 
         tree.clear()
-        first, second = tree.start(sleep="0.1"), None
+        first = tree.start(sleep="0.1")
         time.sleep(1)
         second = tree.start()
         said = second.communicate()[1]
@@ -180,6 +249,7 @@ def main():
         tree.clear()
         status, _ = tree.run(LACKS="no such flag")
         expect("rt does it where rattle can't", status == 0 and not tree.started())
+        try_shipped(tree, every)
     print(f"first_run.py: ./alcrs over a stub, {len(every)} crates: as it has to be")
     return 0
 

@@ -1,10 +1,13 @@
 #!/usr/bin/env python3
-"""Proves the crates that the program stands on, several at a time, and builds it: for ./alcrs.
+"""Proves the crates that the program stands on, several at a time, and builds it.
 
-    scripts/build.py LOG [rattle's flags for the program]
+    scripts/build.py LOG PROGRAM [rattle's flags for the program]
+    scripts/build.py LOG PROGRAM --over-gate [rattle's flags for the program]
     scripts/build.py LOG --libraries
 
-The second proves the libraries alone, once no ./alcrs builds: for capi/archive.
+The first is for ./alcrs. The second takes the libraries that `rt ci` has just proved here, and
+builds the program alone: for release/make and ci/release.py. The third proves the libraries alone,
+once no ./alcrs builds: for capi/archive.
 
 It calls `rattle`, the prover and compiler beside `rt`, as `rt ci` does: each library is proved in
 one go, and holds for the crates above it what it states, without its proofs (`--statements`). They
@@ -13,7 +16,7 @@ leaves them in, as checks after an edit begin with them. Where `rattle` has no s
 there, `rt run` proves one crate after the other.
 
 Each library is in out/built of its crate, beside a sum of all that it was made of: a later run
-makes it anew where this sum has changed. Where the lines that are left are more than the longest
+makes it anew if this sum has changed. Where the lines that are left are more than the longest
 chain of crates has for each processor, each crate has one processor: several together spend more on
 it. Else the crate with the longest chain above it has all processors, those with a chain nearly as
 long have half of them by what it leaves, and each of the others has one by what these leave. What
@@ -40,9 +43,9 @@ CRATES = ROOT / "crates"
 PROGRAM = "alcrs"
 # What a proof may take of memory, in bytes.
 MEMORY = 3 << 30
-# What a line of code is expected to take of a processor before anything is measured, in seconds,
-# and how firmly, in lines.
-SECONDS, FIRMLY = 0.1, 1000
+# What a line of code is expected to take of a processor before anything is measured, in seconds.
+# A crate costs as much as so many lines, whatever is in it.
+SECONDS, FIRST_LINES = 0.2, 100
 # Which part of the longest chain is as good as it.
 NEARLY = 0.8
 # Behind the last proof: compiling and linking.
@@ -70,12 +73,14 @@ def sources(name):
                   for it in (CRATES / name / part).glob("**/*") if it.suffix in (".rt", ".antt"))
 
 
+def seconds_of_ended():
+    """What all that has run and ended has taken of a processor."""
+    spent = resource.getrusage(resource.RUSAGE_CHILDREN)
+    return spent.ru_utime + spent.ru_stime
+
+
 def lines_of(name):
     return sum(it.read_bytes().count(b"\n") for it in sources(name) if it.suffix == ".rt")
-
-
-def library(name):
-    return CRATES / name / "out" / "built" / f"{name}.rlib"
 
 
 def number_in(path):
@@ -119,15 +124,16 @@ class Kit:
         return file.read_bytes() if file.is_file() else b""
 
     def words(self, name, crates, others, below):
-        """How `rattle` is called for a crate that names some, and stands on all of `below`."""
+        """How `rattle` is called for a crate that names libraries, and stands on all of `below`.
+        Each library of a crate is given by its path."""
         folder = self.folder
         words = [self.rattle, "build", "--crate-name", name]
         words.append("src/main.rt" if name == PROGRAM else "src/lib.rt")
         for it in ("std", *others):
             words += ["--extern", f"{it}={folder}/rlibs/{it}.rlib"]
         for it in crates:
-            words += ["--extern", f"{it}={library(it)}"]
-        for it in (folder / "rlibs", *(library(it).parent for it in below)):
+            words += ["--extern", f"{it.stem}={it}"]
+        for it in (folder / "rlibs", *(it.parent for it in below)):
             words += ["-L", f"dependency={it}"]
         words += ["--antt-project", folder / "rattle" / "logic" / "antt-project.json"]
         return [*words, "--logic-built", folder / "logic_built", "--links", f"{name}="]
@@ -141,8 +147,11 @@ class Kit:
 
 
 class Build:
-    def __init__(self, kit, log, flags, takes_program):
+    """`program` is where the program comes, or None if it isn't wanted."""
+
+    def __init__(self, kit, log, flags, program, is_over_gate=False):
         self.kit, self.log, self.flags = kit, log, flags
+        self.program, self.is_over_gate = program, is_over_gate
         self.parent, self.is_stopped = os.getppid(), False
         # The names of each crate's row, and all crates below it, from the field up.
         self.named, self.below = names_below(), {}
@@ -158,9 +167,10 @@ class Build:
             above = [self.chain[it] for it in self.chain if name in self.below[it]]
             self.chain[name] = self.lines[name] + max(above, default=0)
         # What is wanted, and is proved; what runs, by name; what has failed once.
-        self.wanted = set(self.below) - (set() if takes_program else {PROGRAM})
+        self.wanted = set(self.below) - (set() if program else {PROGRAM})
         self.proved, self.running, self.failed = set(), {}, set()
-        self.lines_done = FIRMLY
+        # What a line took of a processor in the crate where it took most, in seconds.
+        self.slowest = 0
 
     def find_below(self, name):
         own = [it for it in self.named[name] if it in self.named]
@@ -178,33 +188,42 @@ class Build:
             told.update(self.sums.get(it, it).encode())
         return told.hexdigest()
 
+    def made(self, name):
+        """What is made of a crate: a library, or the program. `rt ci` has a folder of its own."""
+        if name == PROGRAM:
+            return self.program
+        folder = "rlib" if self.is_over_gate else "built"
+        return CRATES / name / "out" / folder / f"{name}.rlib"
+
     def find_proved(self):
-        """Notes which libraries are proved already. The program is built anew: `rt` may have put
-        another in its place."""
+        """Notes which libraries are proved already."""
         for name, below in self.below.items():
-            note = library(name).parent / "sum"
-            if library(name).is_dir() and below <= self.proved and note.is_file():
-                if note.read_text(encoding="ascii") == self.sums[name]:
-                    self.proved.add(name)
+            if name == PROGRAM or not below <= self.proved or not self.made(name).is_dir():
+                continue
+            note = self.made(name).parent / "sum"
+            is_noted = note.is_file() and note.read_text(encoding="ascii") == self.sums[name]
+            if self.is_over_gate or is_noted:
+                self.proved.add(name)
 
     def words(self, name, jobs):
         own = self.named[name]
-        words = self.kit.words(name, [it for it in own if it in self.below],
-                               [it for it in own if it not in self.below], self.below[name])
+        words = self.kit.words(name, [self.made(it) for it in own if it in self.below],
+                               [it for it in own if it not in self.below],
+                               [self.made(it) for it in self.below[name]])
         words += ["--jobs", jobs]
         if name != PROGRAM:
-            return [*words, "--statements", "-o", library(name)]
+            return [*words, "--statements", "-o", self.made(name)]
         words += ["--toolchain", self.kit.folder / "toolchain", *self.flags]
-        program = f"out/{PROGRAM}"
-        both = [words + ["-o", f"{program}.o"], self.kit.link(program)]
+        both = [words + ["-o", f"{self.program}.o"], self.kit.link(self.program)]
         return ["sh", "-c", " && ".join(shlex.join(map(str, it)) for it in both)]
 
     def start(self, name, jobs, nice):
         words = ["nice", "-n", nice, *self.words(name, jobs)]
-        out = library(name).parent
-        shutil.rmtree(out, ignore_errors=True)
-        out.mkdir(parents=True)
-        with open(out / "said", "wb") as said:
+        made = self.made(name)
+        if name != PROGRAM:
+            shutil.rmtree(made.parent, ignore_errors=True)
+        made.parent.mkdir(parents=True, exist_ok=True)
+        with open(f"{made}.said", "wb") as said:
             child = subprocess.Popen(
                 [str(it) for it in words], cwd=CRATES / name, stdin=subprocess.DEVNULL,
                 stdout=said, stderr=subprocess.STDOUT, start_new_session=True,
@@ -233,12 +252,12 @@ class Build:
                 return
             self.start(name, *self.share(name))
 
-    def end(self, name):
-        """Notes how one has ended. Whether to go on."""
-        child, out = self.running.pop(name), library(name).parent
-        self.log.write(b"== " + name.encode() + b"\n" + (out / "said").read_bytes())
+    def end(self, name, seconds):
+        """Notes how one has ended, which took so many seconds of a processor. Whether to go on."""
+        child, said = self.running.pop(name), Path(f"{self.made(name)}.said")
+        self.log.write(b"== " + name.encode() + b"\n" + said.read_bytes())
         self.log.flush()
-        os.remove(out / "said")
+        os.remove(said)
         if child.returncode:
             if name in self.failed or name == PROGRAM:
                 say(f"{name} isn't proved")
@@ -248,22 +267,20 @@ class Build:
             self.most, self.at_once = 1, max(1, self.at_once // 2)
             say(f"{name} isn't proved: once more, by itself")
             return True
-        if self.sum_of(name) == self.sums[name]:
-            (out / "sum").write_text(self.sums[name], encoding="ascii")
+        if name != PROGRAM and self.sum_of(name) == self.sums[name]:
+            (said.parent / "sum").write_text(self.sums[name], encoding="ascii")
         self.proved.add(name)
         if self.failed <= self.proved:
             self.most = self.at_once
-        self.lines_done += self.lines[name]
+        self.slowest = max(self.slowest, seconds / (FIRST_LINES + self.lines[name]))
         if name != PROGRAM:
             say(f"{len(self.proved)} of {len(self.wanted)} crates, {self.time_left()} ({name})")
         return True
 
     def time_left(self):
-        """About how long it takes, by what has taken how long of a processor."""
-        spent = resource.getrusage(resource.RUSAGE_CHILDREN)
-        rate = (FIRMLY * SECONDS + spent.ru_utime + spent.ru_stime) / self.lines_done
-        left = sum(self.lines[name] for name in self.wanted - self.proved)
-        minutes = round((rate * left / self.most + LINKING) / 60)
+        """About how long it takes, if a line takes what it took in the slowest crate so far."""
+        left = sum(FIRST_LINES + self.lines[name] for name in self.wanted - self.proved)
+        minutes = round(((self.slowest or SECONDS) * left / self.most + LINKING) / 60)
         return f"about {minutes} minutes" if minutes > 1 else "about a minute"
 
     def run(self):
@@ -274,7 +291,8 @@ class Build:
             if self.is_stopped or os.getppid() != self.parent:
                 return STOPPED
             for name, child in list(self.running.items()):
-                if child.poll() is not None and not self.end(name):
+                before = seconds_of_ended()
+                if child.poll() is not None and not self.end(name, seconds_of_ended() - before):
                     return 1
         return 0
 
@@ -291,11 +309,14 @@ class Build:
                 time.sleep(0.05)
 
 
-def build_by_rt(log, flags):
+def build_by_rt(log, flags, program):
     """Proves one crate after the other, and builds the program."""
     words = ["rt", "run", *flags, "--", "--help"]
-    return subprocess.run(words, cwd=CRATES / PROGRAM, stdin=subprocess.DEVNULL, stdout=log,
-                          stderr=subprocess.STDOUT).returncode
+    ended = subprocess.run(words, cwd=CRATES / PROGRAM, stdin=subprocess.DEVNULL, stdout=log,
+                           stderr=subprocess.STDOUT).returncode
+    if not ended:
+        shutil.copy(CRATES / PROGRAM / "out" / PROGRAM, program)
+    return ended
 
 
 def main():
@@ -303,16 +324,18 @@ def main():
         build.is_stopped = True
 
     kit, flags = Kit(), sys.argv[2:]
-    takes_program = flags != ["--libraries"]
+    program = None if flags == ["--libraries"] else Path(flags.pop(0)).absolute()
+    is_over_gate = flags[:1] == ["--over-gate"]
+    flags = flags[is_over_gate:] if program else []
     with open(sys.argv[1], "wb") as log, contextlib.ExitStack() as held:
         if not kit.proves_statements():
-            return build_by_rt(log, flags) if takes_program else 1
-        if not takes_program:
-            # ./alcrs holds this lock while it builds.
-            out = CRATES / PROGRAM / "out"
+            return build_by_rt(log, flags, program) if program else 1
+        if not program:
+            # release/program holds this lock while it builds.
+            out = ROOT / "out"
             out.mkdir(exist_ok=True)
             fcntl.flock(held.enter_context(open(out / "lock", "ab")), fcntl.LOCK_EX)
-        build = Build(kit, log, flags, takes_program)
+        build = Build(kit, log, flags, program, is_over_gate)
         for number in (signal.SIGINT, signal.SIGTERM, signal.SIGHUP):
             signal.signal(number, interrupted)
         try:

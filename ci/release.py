@@ -1,0 +1,77 @@
+#!/usr/bin/env python3
+"""Fails where release/ doesn't ship what the sources give.
+
+Each packed program has to have the sum that release/MANIFEST tells. If the manifest is of today's
+sources and of this toolchain, a fresh proved build has to be the same program, byte for byte. It is
+the last step alone, over the libraries that `rt ci` has just proved. What isn't compared is told,
+with the reason.
+"""
+import gzip
+import hashlib
+import subprocess
+import sys
+import tempfile
+from pathlib import Path
+
+ROOT = Path(__file__).resolve().parent.parent
+RELEASE = ROOT / "release"
+LEVELS = ("x86-64-v2", "x86-64-v3")
+
+
+def said_by(*words):
+    """What a program prints, or None if it isn't there or fails."""
+    try:
+        ran = subprocess.run(words, capture_output=True, text=True, cwd=ROOT, check=True)
+    except (OSError, subprocess.CalledProcessError):
+        return None
+    return ran.stdout.strip()
+
+
+def sum_of(program):
+    return hashlib.sha256(program).hexdigest()
+
+
+def sum_of_packed(level):
+    try:
+        return sum_of(gzip.decompress((RELEASE / f"alcrs-{level}.gz").read_bytes()))
+    except (OSError, EOFError) as error:
+        return f"none ({error})"
+
+
+def sums_of_builds():
+    """The sums of the programs as they are built now, both at once."""
+    with tempfile.TemporaryDirectory() as room:
+        builds = {
+            level: subprocess.Popen([
+                ROOT / "scripts" / "build.py", f"{room}/{level}.log", f"{room}/{level}",
+                "--over-gate", f"--cpu={level}",
+            ]) for level in LEVELS
+        }
+        for level, build in builds.items():
+            if build.wait():
+                sys.exit(f"{level} wasn't built\n{Path(room, f'{level}.log').read_text()}")
+        return {level: sum_of(Path(room, level).read_bytes()) for level in LEVELS}
+
+
+def main():
+    lines = (RELEASE / "MANIFEST").read_text(encoding="ascii").splitlines()
+    manifest = dict(line.split(" ", 1) for line in lines)
+    found = [("packed", level, sum_of_packed(level)) for level in LEVELS]
+    toolchain = said_by("rt", "version")
+    if said_by("release/sum") != manifest["sources"]:
+        print("release.py: not compared with a build, as the sources are others")
+    elif toolchain != manifest["toolchain"]:
+        print(f"release.py: not compared with a build, as the toolchain is {toolchain}")
+    else:
+        found += [("built", *it) for it in sums_of_builds().items()]
+    wrong = 0
+    for what, level, told in found:
+        is_same = told == manifest[level]
+        print(f"release.py: the {what} program for {level} has the sum {told}, "
+              f"{'as' if is_same else 'and not the one that'} release/MANIFEST tells")
+        wrong += not is_same
+    return 1 if wrong else 0
+
+
+if __name__ == "__main__":
+    sys.exit(main())
