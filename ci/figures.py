@@ -1,7 +1,7 @@
 #!/usr/bin/env python3
 """Fails where a document has a figure that isn't what can be counted, a list of commands or calls
 that lacks one, or a link that leads nowhere; and where a crate's page has a caller that isn't
-compiled.
+compiled. Tells of how many crates the mutants of mutants/ were tried over today's sources.
 
 Each figure stands below with the documents that have it, and what finds it there. A document that
 has it no more is a failure, too, so that no figure goes unseen by being put into other words.
@@ -9,6 +9,7 @@ has it no more is a failure, too, so that no figure goes unseen by being put int
 import ast
 import collections
 import re
+import subprocess
 import sys
 from pathlib import Path
 
@@ -423,6 +424,19 @@ def crates_of_architecture():
         yield name, set(re.findall(r"\w+", re.sub(r"\([^)]*\)", "", on.group(1)))) if on else set()
 
 
+def tell_tried():
+    """Prints how many crates have changed since all their mutants were last tried."""
+    lines = text_of("mutants/TRIED").splitlines()
+    sums = {crate: sources for crate, _, sources, *_ in map(str.split, lines)}
+    changed, crates = [], sorted({it.parent.name for it in ROOT.glob("mutants/*/*.edit")})
+    for crate in crates:
+        words = [ROOT / "release" / "sum", crate]
+        said = subprocess.run(words, capture_output=True, text=True, check=True).stdout.strip()
+        changed += [crate] if said != sums.get(crate) else []
+    print(f"mutants/TRIED: {len(changed)} of {len(crates)} crates have changed since their mutants"
+          f" were tried, or weren't tried{': ' if changed else ''}{' '.join(changed)}")
+
+
 def main():
     wrong, count = [*wrong_losses(), *wrong_texts(), *wrong_commands(), *wrong_calls()], 0
     figures = [*counted(), *counted_in_crates(), *constants(), *measured()]
@@ -457,6 +471,7 @@ def main():
                 wrong.append(f"{path.relative_to(ROOT)}: no file {name}")
             elif anchor and anchor not in anchors(to):
                 wrong.append(f"{path.relative_to(ROOT)}: no heading {link}")
+    tell_tried()
     for line in wrong:
         print(line)
     print(f"{count} figures and links of documents, {len(wrong)} wrong")

@@ -16,7 +16,7 @@ WIDTH = 100
 CRATES = ["crates/*/src/**/*.rt", "crates/*/specs/**/*.antt"]
 SCRIPTS = [
     "alcrs", "do", "install", ".ci/*", "ci/*", "scripts/*", "bench/*", "packaging/*",
-    "mutants/try", "capi/*", "capi/*/*",
+    "mutants/try", "release/[a-z]*[a-y]", "capi/*", "capi/*/*",
 ]
 DOCUMENTS = ["*.md", "docs/*.md", "*/README.md", "crates/*/*.md"]
 LAID_OUT = ("#[tactic(", "#![")
