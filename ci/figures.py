@@ -266,13 +266,6 @@ def measured():
     for name in ("README.md", "docs/OPERATING.md"):
         yield name, r"process (\d+) to (\d+) MB of object a second", tens(received)
         yield name, r"`drop` (\d+) to (\d+), with symbols", tens(sent)
-    minutes = r"\*\*([\d.]+) minutes\*\* "
-    builds = [re.search(minutes + it, text).group(1) for it in (r"on\s+four", r"on\s+two")]
-    yield "README.md", r"takes (\d+) minutes on four cores of 2\.7 GHz, and (\d+) on two", [
-        round(float(it)) for it in builds
-    ]
-    gate = re.search(minutes + r"in\s+one\s+run", text).group(1)
-    yield "README.md", r"takes (\d+) minutes on those four cores from nothing", [int(gate)]
 
 
 def blocks_of(symbols, block, most):
