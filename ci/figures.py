@@ -160,7 +160,7 @@ def constants_of_files(batch, group):
     room = constant("ci/claims.py", r"^ROOM = (\d+) << 20$")
     yield "docs/ASSURANCE.md", r"as its inputs and (\d+) MiB", [room]
     memory = constant("scripts/build.py", r"^MEMORY = (\d+) << 30$")
-    yield "README.md", r"there are (\d+) GiB of free memory", [memory]
+    yield "README.md", r"up to (\d+) GiB of memory", [memory]
     head = dict(re.findall(r"^header_size (None|\(Some f\)) = (\d+)$",
                            text_of("crates/alc/specs/Written.antt"), re.M))
     bare, carrier = int(head["None"]), int(head["(Some f)"])
