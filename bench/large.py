@@ -17,7 +17,7 @@ import subprocess
 import sys
 import tempfile
 
-from speed import IDENTIFIERS, MIB, ROOT, Case, cell, row, run, write_object
+from speed import IDENTIFIERS, MIB, Case, cell, row, run, write_object
 
 SYMBOL, BLOCK, MOST = 1024, 128, 160
 DROPPED = 1000
@@ -76,8 +76,6 @@ def main():
     options.add_argument("--folder", help="where the files are put for as long as it runs")
     options.add_argument("--only", nargs="+", metavar="COMMAND", help="these commands alone")
     chosen = options.parse_args()
-    # Builds the program, where it isn't yet.
-    subprocess.run([os.path.join(ROOT, "alcrs"), "--help"], check=True, stdout=subprocess.DEVNULL)
     case = Case(chosen.mib * MIB, SYMBOL, BLOCK, MOST)
     wanted = chosen.only or list(commands_of(case, ORDERS[0]))
     with tempfile.TemporaryDirectory(dir=chosen.folder) as folder:

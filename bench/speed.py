@@ -20,7 +20,9 @@ import threading
 import time
 
 ROOT = os.path.dirname(os.path.dirname(os.path.abspath(__file__)))
-PROGRAM = os.path.join(ROOT, "crates", "alcrs", "out", "alcrs")
+sys.path.insert(0, os.path.join(ROOT, "ci"))
+from trying import PROGRAM
+
 COMMANDS = ["encode", "certify", "check", "drop", "decode"]
 IDENTIFIERS = ["--tsi", "1", "--toi", "1"]
 MIB = 1 << 20
@@ -188,8 +190,6 @@ def main():
     options.add_argument("--only", choices=COMMANDS, metavar="COMMAND", help=", ".join(COMMANDS))
     chosen = options.parse_args()
     wanted = [chosen.only] if chosen.only else COMMANDS
-    # Builds the program, where it isn't yet.
-    subprocess.run([os.path.join(ROOT, "alcrs"), "--help"], check=True, stdout=subprocess.DEVNULL)
     measured = {}
     sizes = [Case(size * MIB, 1024, 128, 160) for size in (4, 16, 64)]
     if chosen.quick:

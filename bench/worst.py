@@ -17,7 +17,9 @@ import time
 
 ROOT = os.path.dirname(os.path.dirname(os.path.abspath(__file__)))
 SCRIPT = os.path.abspath(__file__)
-PROGRAM = os.path.join(ROOT, "crates", "alcrs", "out", "alcrs")
+sys.path.insert(0, os.path.join(ROOT, "ci"))
+from trying import PROGRAM
+
 HEADER = bytes([0x10, 0xA0, 7, 5]) + bytes(7) + b"\1" + bytes(3) + b"\1\x40\3"
 # Whose packets: the header has these.
 IDENTIFIERS = ["--tsi", "1", "--toi", "1"]

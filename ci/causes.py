@@ -5,7 +5,7 @@ in the sentence.
 Each case runs the program in a folder of its own, with copies of the samples. It tells the words,
 the status, how standard output's last line begins, and what the sentence on standard error has to
 say. Besides, it tries what is said behind refused lines, before a reception that can't be kept, at
-once of an output that can't be created, and of progress. After `./alcrs` has built the program.
+once of an output that can't be created, and of progress.
 """
 import os
 import pty

@@ -15,7 +15,7 @@ Three kinds, in each command that reads such a file, but `join`, with room for t
   nothing is changed.
 
 Of the third kind it tries 2,000 by chance, or as many as the first argument says, or all by `all`,
-which takes minutes. After `./alcrs` has built the program.
+which takes minutes.
 """
 import os
 import random

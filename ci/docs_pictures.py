@@ -5,7 +5,6 @@ after losses.
 `ci/docs_pictures.py` draws the sample session, and compares it with docs/picture.svg.
 `ci/docs_pictures.py --write` makes all three, which takes a gigabyte below the folder for temporary
 files, and tells how long the checks of both large sessions took with and without their pictures.
-After `./alcrs` has built the program.
 """
 import os
 import random
@@ -14,10 +13,9 @@ import sys
 import tempfile
 import time
 
-ROOT = os.path.dirname(os.path.dirname(os.path.abspath(__file__)))
+from trying import PROGRAM, ROOT, SAMPLES
+
 DOCS = os.path.join(ROOT, "docs")
-PROGRAM = os.path.join(ROOT, "crates", "alcrs", "out", "alcrs")
-SAMPLES = os.path.join(ROOT, "samples")
 NAMES = ["--tsi", "7", "--toi", "1"]
 RUNS = 5
 

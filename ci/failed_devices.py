@@ -10,7 +10,7 @@ nothing changes. An interruption may also be passed over, and so may a call that
 which is tried twice. Then each command runs with reads and writes that move 1 to 7 bytes at a time,
 which changes nothing, and with standard input, output and error closed, so that files get their
 numbers: no input changes, and the output is whole or what it was. A C compiler, `cc`, builds the
-library that fails. After `./alcrs` has built the program.
+library that fails.
 """
 import os
 import subprocess

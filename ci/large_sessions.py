@@ -5,7 +5,7 @@ The object has 280 MiB. Its sessions have it in both orders, with every symbol a
 each block needs. Each run may hold 32 MiB at most. Then reads of the session fail, and give another
 first byte, as those of a file that is changed meanwhile: some of the first and the last, and of all
 between. Such a run gives the object or a fault, and never another object. A C compiler, `cc`,
-builds the library that lets them fail. After `./alcrs` has built the program.
+builds the library that lets them fail.
 """
 import filecmp
 import os

@@ -7,8 +7,7 @@ block, the kill and the carriers that the lines tell; its columns stand as high 
 has to spare, and its curve as high as the longest run from each place that may be missed, which are
 counted here one by one of the session's datagrams. The lines and the status are those without a
 picture. At a no, and at a fault, the file stays what it was. Where `rsvg-convert` is installed, one
-sheet is made an image, whose size and some of whose pixels are looked at. After `./alcrs` has built
-the program.
+sheet is made an image, whose size and some of whose pixels are looked at.
 """
 import os
 import re

@@ -5,7 +5,7 @@ Each command runs once with all the memory it asks for, and then once for each a
 refused. A run ends well where it prints the same and writes the same, or `fault memory` as its last
 line with status 1; before that line a run may have printed whole lines of `follow` and, without a
 summary, of `show`, and nothing else, and its output is what it was. A C compiler, `cc`, builds the
-library that refuses. After `./alcrs` has built the program.
+library that refuses.
 """
 import os
 import sys

@@ -6,7 +6,6 @@ The sessions are made here, by chance from fixed seeds: several TSI and TOI, in 
 the other; FTIs that change, of few blocks and of 2^24; symbols that are repeated, are past their
 block or of no block; datagrams that are no packets; and frames that are cut. Those of samples/ are
 tried, too, and a pipe. Last come many identities, FTIs and blocks, which have to take no long time.
-After `./alcrs` has built the program.
 """
 import itertools
 import os

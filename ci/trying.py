@@ -11,7 +11,10 @@ import threading
 from concurrent.futures import ThreadPoolExecutor
 
 ROOT = os.path.dirname(os.path.dirname(os.path.abspath(__file__)))
-PROGRAM = os.path.join(ROOT, "crates", "alcrs", "out", "alcrs")
+FINDER = os.path.join(ROOT, "release", "program")
+PROGRAM = subprocess.check_output([FINDER], text=True).rstrip("\n")
+# For what is run in other folders.
+os.environ.update(ALCRS_PROGRAM=PROGRAM)
 SAMPLES = os.path.join(ROOT, "samples")
 BEFORE = b"what stood here before"
 WORKERS = os.cpu_count() or 1
