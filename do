@@ -1,8 +1,9 @@
 #!/usr/bin/env bash
-# The five things that one does here, a word for each:
+# The six things that one does here, a word for each:
 #
 #     ./do build              proves and builds the program, if it isn't built
 #     ./do check CRATE...     proves these crates, and what they use
+#     ./do test               tries the program from outside, in a few minutes, without a toolchain
 #     ./do gate               runs the merge gate, an hour or more from nothing
 #     ./do fmt                lays out the files of each crate as the gate wants them
 #     ./do mutants CRATE...   tries the mutants of these crates, those of the gate and the others
@@ -36,6 +37,11 @@ check)
     for crate in "$@"; do
         (cd "crates/$crate" && rt check)
     done
+    ;;
+test)
+    # A relative ALCRS_PROGRAM is meant from the caller's folder.
+    cd "$OLDPWD"
+    exec "$OLDPWD/ci/all"
     ;;
 gate)
     .ci/run
