@@ -1,7 +1,7 @@
 #!/usr/bin/env bash
 # The six things that one does here, a word for each:
 #
-#     ./do build              proves and builds the program, if it isn't built
+#     ./do build              proves and builds the program of these sources, if it isn't built
 #     ./do check CRATE...     proves these crates, and what they use
 #     ./do test               tries the program from outside, in a few minutes, without a toolchain
 #     ./do gate               runs the merge gate, an hour or more from nothing
@@ -30,7 +30,7 @@ what="${1-}"
 [ $# = 0 ] || shift
 case "$what" in
 build)
-    ./alcrs --version
+    ./alcrs --from-source --version
     ;;
 check)
     are_crates "$@"
