@@ -1,5 +1,5 @@
 //! A reader or a writer of the standard library as one of ours.
-ghost use Rattle.std.specs.Prelude.{◌≡◌, ◌<◌, ◌≤◌, ◌+◌, None, true, false, ◌^◌, ◌-◌, [], length};
+ghost use Rattle.std.specs.Prelude.{◌≡◌, ◌<◌, ◌≤◌, ◌+◌, true, false, ◌^◌, ◌-◌, [], length};
 ghost use Rattle.std.specs.Prelude.{IfOk, OnOk, OnErr, is_err};
 ghost use Rattle.std.specs.Io.KnownBytes.{ReadConsumes, WriteAppends, Keeps};
 ghost use Rattle.std.specs.Io.Buffered.{writer_buffer, writer_contents};
@@ -55,7 +55,7 @@ impl<T> Device<T> {
 }
 
 impl<T: io::Read> Read for Device<T> {
-    ghost remaining = { λ _. None };
+    ghost remaining = { λ d. T.remaining d.inner };
 
     ghost left = { λ d. d.left };
 
@@ -66,12 +66,11 @@ impl<T: io::Read> Read for Device<T> {
     /// What the inner reader gives, and its end, is passed on; so is its error, as `Failed`.
     fn read(&mut self, buf: &mut [u8]) -> Result<usize, Failed>
         ensures bound { IfOk result (λ n. n ≤ length buf.old) }
-        ensures bytes { ReadConsumes None None result buf.new }
+        ensures bytes { ReadConsumes (T.remaining self.old.inner)
+            (T.remaining self.new.inner) result buf.new }
         ensures falls { IfOk result (λ n. self.new.left + n ≤ self.old.left) }
         ensures fails { OnErr result (self.new.failed ≡ true) }
         ensures works { OnOk result ((self.old.failed ≡ false) × (self.new.failed ≡ false)) }
-        ensures inner { ReadConsumes (T.remaining self.old.inner)
-            (T.remaining self.new.inner) result buf.new }
         ensures unsound { OnErr result (false ≡ false) }
         ensures stays { false ≡ false }
         ensures dry { OnOk result (0 < self.old.left) }
@@ -122,7 +121,7 @@ impl<T: io::Write + Drop> Device<BufWriter<T>> {
 }
 
 impl<T: io::Write> Write for Device<T> {
-    ghost contents = { λ _. None };
+    ghost contents = { λ d. T.contents d.inner };
 
     ghost failed = { λ d. d.failed };
 
@@ -132,13 +131,12 @@ impl<T: io::Write> Write for Device<T> {
     fn write(&mut self, bytes: &[u8]) -> Result<usize, Failed>
         ensures bound { IfOk result (λ n. n ≤ length bytes.now) }
         ensures some { IfOk result (λ n. 0 < length bytes.now → 0 < n) }
-        ensures bytes { WriteAppends None None result bytes.now }
+        ensures bytes { WriteAppends (T.contents self.old.inner)
+            (T.contents self.new.inner) result bytes.now }
         ensures fails { OnErr result (self.new.failed ≡ true) }
         ensures works { OnOk result ((self.old.failed ≡ false) × (self.new.failed ≡ false)) }
         ensures full { OnErr result (false ≡ false) }
         ensures fills { IfOk result (λ n. 0 ≤ n) }
-        ensures inner { WriteAppends (T.contents self.old.inner)
-            (T.contents self.new.inner) result bytes.now }
     {
         if self.failed {
             return Err(Failed);

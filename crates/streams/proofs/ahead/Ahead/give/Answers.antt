@@ -22,8 +22,8 @@ returns-clause-bytes g c = λ yes.
     let s = c.args.self.now in
     let n : ℕ = length c.args.buf.now in
     let at : ℕ = c.in-Some.before in
-    let before : s.offset + c.in-Some.before ≡ c.args.offset = omega (arith, c.in-Some.ensures) in
-    let inside : c.in-Some.before + length c.args.buf.now ≤ s.size = omega (arith, c.if-before-self.false, c.if-buf-self.false) in
+    let before : s.at + c.in-Some.before ≡ c.args.offset = omega (arith, c.in-Some.ensures) in
+    let inside : c.in-Some.before + length c.args.buf.now ≤ s.len = omega (arith, c.if-before-self.false, c.if-buf-self.false) in
     subst (λ (m : ℕ). StandsAt (g.F.ReadAt.content s.file.now) m c.copy_from_slice.new.self) before
-    (part_stands (g.F.ReadAt.content s.file.now) s.bytes c.copy_from_slice.new.self s.offset s.size at n s.within inside
-    (c.copy_from_slice.ensures.after ∙ (let e : at + n - at ≡ n = omega arith in ap (λ (m : ℕ). take m (drop at s.bytes)) e)) s.held)
+    (part_stands (g.F.ReadAt.content s.file.now) s.bytes.items c.copy_from_slice.new.self s.at s.len at n s.within inside
+    (c.copy_from_slice.ensures.after ∙ ap (λ (xs : List ℕ). take (at + n - at) (drop at xs)) c.as_slice.ensures.value ∙ (let e : at + n - at ≡ n = omega arith in ap (λ (m : ℕ). take m (drop at s.bytes.items)) e)) s.has)
