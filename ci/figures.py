@@ -141,14 +141,16 @@ def constants_of_sums():
 def constants_of_files(batch, group):
     """Sizes of what is read, written and kept at once."""
     shift = r"^const {}: usize = 1 << (\d+);"
-    ahead = constant("crates/streams/src/ahead.rt", shift.format("AHEAD"))
+    line, lane = (constant("crates/streams/src/ahead.rt", shift.format(it))
+                  for it in ("LINE_BYTES", "LANE_BYTES"))
     kept = constant("crates/alcrs/src/words.rt", shift.format("KEPT_BYTES"))
     buffer = constant(
         "crates/program_host/src/program.rt", r"^pub const BUFFER_SIZE: usize = ([\d_]+);"
     )
     runs = constant("crates/encoder/src/rounds_from.rt", r"^const LONG_RUN_BLOCKS: usize = (\d+);")
     for name in ("docs/ARCHITECTURE.md", "docs/DECISIONS.md"):
-        yield name, r"are read (\d+) KiB at once", [2 ** ahead >> 10]
+        yield name, r"are read (\d+) KiB at once", [2 ** line >> 10]
+    yield "docs/DECISIONS.md", r"that reads (\d+) KiB ahead", [2 ** lane >> 10]
     yield "docs/ARCHITECTURE.md", r"`rounds\.rt`\), where (\d+) MiB hold them", [batch]
     for words in ("many rounds as take", "two rounds take more than", "a pass over it for every"):
         yield "docs/DECISIONS.md", rf"{words} (\d+) MiB", [batch]

@@ -1,4 +1,5 @@
 pub mod Laws
 pub mod Faults
+pub mod FaultOrder
 pub mod Vectors
 pub mod Kept

@@ -25,9 +25,11 @@ ghost use Rattle.partition.specs.Fti.{block_bytes, encoding_count, has_symbol, l
 ghost use Rattle.partition.specs.Fti.{fti_from, IsValidFti};
 ghost use Rattle.partition.specs.FtiBytes.{bytes_of_fti, fti_of_bytes};
 
+mod first_fault;
 mod order;
 
 use byteorder::{BigEndian, ByteOrder};
+pub use first_fault::fault_order;
 pub use order::Order;
 use std::fmt;
 use std::marker::Model;
