@@ -3,7 +3,7 @@
 #
 #     ./do build              proves and builds the program of these sources, if it isn't built
 #     ./do check CRATE...     proves these crates, and what they use
-#     ./do test               tries the program from outside, in a few minutes, without a toolchain
+#     ./do test               tries the program from outside, in minutes, without a toolchain
 #     ./do gate               runs the merge gate, an hour or more from nothing
 #     ./do fmt                lays out the files of each crate as the gate wants them
 #     ./do mutants CRATE...   tries the mutants of these crates, those of the gate and the others
