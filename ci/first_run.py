@@ -80,7 +80,8 @@ class Tree:
 
     def settings(self, sleep, **settings):
         path = f"{self.folder / 'bin'}:{os.environ['PATH']}"
-        return {**os.environ, "PATH": path, "TREE": str(self.folder), "SLEEP": sleep, **settings}
+        own = {name: told for name, told in os.environ.items() if name != "ALCRS_PROGRAM"}
+        return {**own, "PATH": path, "TREE": str(self.folder), "SLEEP": sleep, **settings}
 
     def start(self, *words, sleep="0.02", **settings):
         return subprocess.Popen(
