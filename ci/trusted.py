@@ -41,8 +41,7 @@ WIDTH = 100
 # Relations that public calls only hand on to one another: what they say inside isn't needed to
 # trust the calls.
 HANDED_ON = {"Rattle.cert.specs.Fed", "Rattle.receiver.specs.Stands",
-             "Rattle.decoder.specs.SymbolsOf", "Rattle.file_decoder.specs.PlacesOf",
-             "Rattle.inventory.specs.Tells"}
+             "Rattle.file_decoder.specs.PlacesOf", "Rattle.inventory.specs.Tells"}
 
 # The crates that offer what they have to those above them in the library alone: no promise to
 # callers.
@@ -82,7 +81,6 @@ PROMISES = [
         ("receiver", "new", []),
         ("receiver", "feed", []),
         ("receiver", "take", []),
-        ("receiver", "write_object", []),
         ("receiver", "stored", []),
     ], ["headline"]),
     (

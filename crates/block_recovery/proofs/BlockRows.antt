@@ -35,7 +35,7 @@ module _ (f : Fti) (b : ℕ) (at : ℕ → Option (List ℕ)) (g : Grid ℕ) (si
     repair = λ j y past lj some. word_of_values g (encodes_own f b g code) few e.polynomial (form_of c e) j lj ∙ e.symbols j y some;
   }
 
-  pub can_be_met : ((c : ℕ) → c < f.symbol_length → ColumnExplained f b at c) → CanBeMet at g size
+  can_be_met : ((c : ℕ) → c < f.symbol_length → ColumnExplained f b at c) → CanBeMet at g size
   can_be_met explained c lc =
       let e = explained c (omega (arith, lc, is)) in
       record { row = λ i. value e.polynomial (point i); bytes = values_bytes g.rows e.polynomial (form_of c e); meets = meets_values c e }
@@ -116,7 +116,7 @@ module _ (f : Fti) (b : ℕ) (at : ℕ → ℕ → Option (List ℕ)) (within : 
     padding = h.padding;
   }
 
-  pub explained_at : ((c : ℕ) → c < f.symbol_length → ColumnExplained f b (at b) c) → (c : ℕ) → c < f.symbol_length → ColumnExplained f b (bytes_of_esi received) c
+  explained_at : ((c : ℕ) → c < f.symbol_length → ColumnExplained f b (at b) c) → (c : ℕ) → c < f.symbol_length → ColumnExplained f b (bytes_of_esi received) c
   explained_at explained c lc = (let w = explained c lc in
       record { polynomial = w.polynomial; form = w.form; symbols = λ j y some. w.symbols j y (sym (same_at j) ∙ some); padding = w.padding })
 

@@ -1,7 +1,7 @@
 -- A block's rows, made of the symbols that came: they are the only ones that can have all of them.
 use Rattle.std.specs.Prelude.{slice_index, is_some, not}
 use Rattle.std.proofs.Common.{◌≡◌, ◌≢◌, ℕ, ◌+◌, ◌-◌, ◌<◌, ◌≤◌, true, List, Option, Some, None, length, get_or, take, drop, arith, ap, ◌∙◌, sym, refl, inl, inr, get_or-take, length-take-le, subst}
-use Rattle.std.proofs.lemmas.Bool.{cases_eq, cases_lt, cases_Bool}
+use Rattle.std.proofs.lemmas.Bool.{cases_lt, cases_Bool}
 use Rattle.std.proofs.lemmas.List.{get_or-drop, length-drop}
 use Rattle.lists.specs.Bytes.{IsByte}
 use Rattle.elim.specs.Matrices.{AreElements}
@@ -97,10 +97,3 @@ module _ (at : ℕ → Option (List ℕ)) (size : ℕ) (g : Grid ℕ) (missing r
       (row_same (λ i. new i c) x.row (entry 0 g) g.rows (slice_index repair (length missing + m)) (λ i li. only c x.row lc x.bytes x.meets i li)
       ∙ x.meets.repair (slice_index repair (length missing + m)) v.0 (erased.arrivals.least (length missing + m) inside) (erased.arrivals.most (length missing + m) inside) v.1
       ∙ sym (ap (λ (o : Option (List ℕ)). byte_of o c) v.1)))
-
-  -- where rows can have all that came, these do
-  pub known_only : CanBeMet at g size → AreOnly at g size new
-  known_only can = are_only (λ m c lm lc. elim (cases_eq (given g (λ i. new i c) (slice_index left m)) (byte_of (at (slice_index left m)) c)) [
-    | inl e ↦ e
-    | inr ne ↦ absurd (none_meets m c lm lc ne can)
-  ])

@@ -5,7 +5,6 @@ ghost use Rattle.partition.specs.Fti.{block_count, source_count, encoding_count,
 ghost use Rattle.block_code.specs.Codes.{EachBlockHas};
 ghost use Rattle.block_code.specs.CodesOf.{IsCodeOf};
 ghost use Rattle.block_recovery.specs.Blocks.{bytes_of_esi, HaveLength};
-ghost use Rattle.block_recovery.specs.Columns.{ColumnExplained};
 ghost use Rattle.block_recovery.specs.Decoded.{AreWithin, IsEnoughAt, AreRows, IsUnexplained};
 ghost use Rattle.block_recovery.specs.Received.{bytes_at};
 ghost use Rattle.block_recovery.specs.Recoveries.{IsKeptOf};
@@ -38,8 +37,7 @@ fn are_padded(fti: &Fti, b: u32, rows: &Rows) -> bool
     is_zero(&rows.bytes[fti.block_bytes(b)..])
 }
 
-/// A block's source symbols, if all that came of it are symbols of an object; `are_sound` says that
-/// this is known, and then repair symbols that aren't needed aren't looked at. `arrivals` has a
+/// A block's source symbols, if all that came of it are symbols of an object. `arrivals` has a
 /// place for each of the block's ESIs.
 pub fn block_rows(
     alloc: Global,
@@ -47,7 +45,6 @@ pub fn block_rows(
     codes: &BlockCodes,
     b: u32,
     arrivals: &[Option<&[u8]>],
-    are_sound: bool,
     kept: &mut Option<Recovery>,
 ) -> Result<Option<Rows>, AllocError>
     requires number { b < block_count fti.now }
@@ -55,8 +52,6 @@ pub fn block_rows(
     requires count { length arrivals.now ≡ encoding_count fti.now b }
     requires symbols { HaveLength fti.now.symbol_length (bytes_of_esi arrivals.now) }
     requires enough { IsEnoughAt fti.now b (bytes_of_esi arrivals.now) }
-    requires sound { are_sound ≡ true → (c : ℕ) → c < fti.now.symbol_length
-        → ColumnExplained fti.now b (bytes_of_esi arrivals.now) c }
     requires kept { IsKeptOf codes.now kept.old }
     ensures sizes { IfOk result
         (λ o. IfSome o (HasSizes (source_count fti.now b) fti.now.symbol_length)) }
@@ -81,11 +76,9 @@ pub fn block_rows(
     let erasure = erasure_of(alloc, arrivals, k)?;
     let (used, others) = erasure.repair.split_at(erasure.missing.len());
     solve(alloc, &block, &erasure.missing, used, &mut rows, kept)?;
-    if !are_sound {
-        let left = residuals(alloc, &block, others, &rows)?;
-        if !is_zero(&left.bytes) {
-            return Ok(None);
-        }
+    let left = residuals(alloc, &block, others, &rows)?;
+    if !is_zero(&left.bytes) {
+        return Ok(None);
     }
     are_bytes(&rows.bytes);
     if are_padded(fti, b, &rows) {
@@ -96,21 +89,18 @@ pub fn block_rows(
 }
 
 /// The source symbols of a block of what was received, if all that came of it are symbols of an
-/// object; `are_sound` says that this is known.
+/// object.
 pub fn received_rows(
     alloc: Global,
     received: &Received<'_>,
     codes: &BlockCodes,
     b: u32,
-    are_sound: bool,
     kept: &mut Option<Recovery>,
 ) -> Result<Option<Rows>, AllocError>
     requires number { b < block_count received.now.fti }
     requires codes { EachBlockHas (IsCodeOf received.now.fti) received.now.fti codes.now }
     requires within { AreWithin received.now.fti (bytes_at received.now.symbols) }
     requires enough { IsEnoughAt received.now.fti b (bytes_at received.now.symbols b) }
-    requires sound { are_sound ≡ true → (c : ℕ) → c < received.now.fti.symbol_length
-        → ColumnExplained received.now.fti b (bytes_at received.now.symbols b) c }
     requires kept { IsKeptOf codes.now kept.old }
     ensures rows { IfOk result (λ o. IfSome o (λ rows.
         AreRows received.now.fti b (bytes_at received.now.symbols b) rows.bytes.items)) }
@@ -121,5 +111,5 @@ pub fn received_rows(
     let fti = &received.fti;
     let came = received.symbols.of_block(b).unwrap_or(&[]);
     let arrivals = symbols_below(alloc, came, fti.n(b))?;
-    block_rows(alloc, fti, codes, b, &arrivals, are_sound, kept)
+    block_rows(alloc, fti, codes, b, &arrivals, kept)
 }

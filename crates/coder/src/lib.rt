@@ -17,9 +17,7 @@
 #![tactic(auto)]
 
 pub use block_recovery::DecodeFault;
-pub use decoder::{
-    Answer, ObjectSymbols, Unread, WriteFault, decode, decode_selection, gather, one_answer,
-};
+pub use decoder::{Answer, Unread, WriteFault, decode, decode_selection, one_answer};
 pub use encoder::{
     CertifyFault, CertifyFromFault, ObjectFault, SendFault, SendFromFault, certify, certify_from,
     certify_to, encode, encode_from, encode_rounds_from, sent_checks_yes,

@@ -1,4 +1,4 @@
-pub mod GatheredSymbols
+pub mod OfDatagrams
 pub mod ObjectSoFar
 pub mod Beginnings
 pub mod Promising

@@ -1,6 +1,6 @@
 -- What each listed block's being sound says of all blocks.
 use Rattle.std.specs.Prelude.{Option, Some, None, is_some, filter, IfSome, IsNone}
-use Rattle.std.proofs.Common.{◌≡◌, ℕ, zero, suc, ◌+◌, ◌<◌, ◌≤◌, Bool, true, List, refl, sym, ap, subst, ◌∙◌, inl, inr, arith, length, get_or}
+use Rattle.std.proofs.Common.{◌≡◌, ℕ, zero, suc, ◌+◌, ◌<◌, ◌≤◌, Bool, true, List, sym, ap, subst, ◌∙◌, inl, inr, arith, length, get_or}
 use Rattle.std.specs.List.{AllByRecursion}
 use Rattle.std.proofs.lemmas.Bool.{cases_Bool, cases_eq, le-leb, leb-true}
 use Rattle.lists.specs.Below.{below}
@@ -12,7 +12,7 @@ use Rattle.block_recovery.specs.Columns.{ColumnExplained}
 use Rattle.block_recovery.specs.Decoded.{AreRows, IsEnoughAt}
 use Rattle.decoder.specs.Answered.{Stand}
 use Rattle.block_recovery.specs.Received.{IsIndex}
-use Rattle.decoder.specs.Unsolvable.{AreSound, IsSound, IsUnsound, SomeUnsound}
+use Rattle.decoder.specs.Unsolvable.{IsSound, IsUnsound, SomeUnsound}
 use Rattle.block_recovery.proofs.Counts.{held_is, none_more_held}
 use Rattle.block_recovery.specs.Listed.{Stands}
 use Rattle.decoder.proofs.Solving.{solvable_from, solvable_gives}
@@ -75,10 +75,6 @@ pub some_explain : {V : Type 0} (items : V → List ℕ) (f : Fti) (b : ℕ) (at
     → (c : ℕ) → c < f.symbol_length → ColumnExplained f b at c
 some_explain items f b at None rows some = absurd (cc)
 some_explain items f b at (Some v) rows some = rows_explain f b at (items v) rows
-
-some_is : {V : Type 0} (o : Option V) → is_some o ≡ true → (v : V) × (o ≡ Some v)
-some_is None some = absurd (cc)
-some_is (Some v) some = (v, refl)
 
 -- where some numbers pass, one does
 one_passes : (t : ℕ → Bool) (n : ℕ) → 0 < length (filter t (below n)) → (j : ℕ) × (t j ≡ true)
@@ -143,7 +139,3 @@ none_unsound f valid at s some solvable =
     let (b, unsound) = some in
     unsound.unexplained (solvable_gives f s.arrivals at s.index b
     (solvable b unsound.in_range (full_of_enough f valid s.arrivals at s.index s.within b unsound.in_range unsound.enough)))
-
--- where each block is sound, none is unsound
-pub sound_not_unsound : (f : Fti) (at : ℕ → ℕ → Option (List ℕ)) → AreSound f at → SomeUnsound f at → ⊥
-sound_not_unsound f at sound (b, unsound) = unsound.unexplained (sound b unsound.in_range unsound.enough)

@@ -1,5 +1,5 @@
 -- What writing an object block by block has made of the symbols that stand so.
-use Rattle.std.specs.Prelude.{◌≡◌, ℕ, List, length, Option, Some, None, Result, Ok, Err}
+use Rattle.std.specs.Prelude.{◌≡◌, ℕ, List, length, Option, Some, None}
 use Rattle.std.specs.Io.KnownBytes.{Appends}
 use Rattle.session.specs.Frames.{AppendsSome}
 use Rattle.partition.specs.Fti.{Fti}
@@ -7,20 +7,9 @@ use Rattle.reception.specs.Symbols.{Symbol, FitsOnly}
 use Rattle.reception.specs.Answer as value
 use Rattle.decoder.specs.Answers.{answer_value}
 use Rattle.decoder.specs.Answered.{Answers}
-use Rattle.block_recovery.specs.Received.{bytes_at, IsIndex}
-use Rattle.decoder.specs.Gathering.{IsNoObject}
-use Rattle.decoder.specs.SymbolsOf.{AreEnough}
+use Rattle.block_recovery.specs.Received.{IsIndex}
 use Rattle.decoder.specs.Unsolvable.{AreSound}
 use Rattle.decoder.specs.declared.answer.Answer.{Answer}
-use Rattle.decoder.specs.declared.gathering.ObjectSymbols.{ObjectSymbols}
-
--- the answer to the symbols that stand so, which is no object; or these symbols, of which each
--- block has enough, and then it is an object
-abbrev pub Gathers : Fti → (ℕ → ℕ → Option (List ℕ)) → Result ObjectSymbols Answer → Type 0
-Gathers f at (Err answer) = Answers f at (answer_value answer) × IsNoObject answer
-Gathers f at (Ok s) =
-    (s.received.fti ≡ f) × (bytes_at s.received.symbols ≡ at) × AreEnough s × (object : List ℕ)
-    × Answers f at (value.Object object)
 
 -- the answer to the symbols that stand so, where it is told; else they are those of an object
 abbrev pub IsVerdict : Fti → (ℕ → ℕ → Option (List ℕ)) → Option Answer → Type 0

@@ -8,7 +8,7 @@ ghost use Rattle.reception.specs.Answer.{IsAnswer};
 ghost use Rattle.decoder.specs.Answers.{answer_value};
 ghost use Rattle.block_recovery.specs.Decoded.{AreWithin};
 ghost use Rattle.decoder.specs.Answered.{Answers, IsShort, NoneIsShort, Stand};
-ghost use Rattle.decoder.specs.Gathering.{IsNoObject};
+ghost use Rattle.decoder.specs.Objects.{IsNoObject};
 ghost use Rattle.block_recovery.specs.Received.{bytes_at};
 ghost use Rattle.decoder.specs.Sources.{IsUnreadOf};
 ghost use Rattle.decoder.specs.Unsolvable.{HaveBytes};
@@ -24,8 +24,8 @@ use lists::are_bytes;
 use reception::Identity;
 use std::alloc::{AllocError, Global};
 
-/// What the type says of each datagram.
-pub(crate) fn all_are_bytes(datagrams: &[&[u8]])
+// What the type says of each datagram.
+fn all_are_bytes(datagrams: &[&[u8]])
     ensures { (i : ℕ) → i < length datagrams.now
         → AreBytes (slice_index_or (map (λ d. d.now) datagrams.now) i []) }
 {
@@ -50,7 +50,7 @@ fn decode_all(
     let mut object = Vec::with_capacity(alloc, fti.transfer_length() as usize)?;
     let mut kept = None;
     for b in 0..fti.block_count() {
-        let Some(rows) = received_rows(alloc, received, codes, b, false, &mut kept)? else {
+        let Some(rows) = received_rows(alloc, received, codes, b, &mut kept)? else {
             return Ok(Answer::Fault(DecodeFault::NotCode(b)));
         };
         object.extend_from_slice(&rows.bytes[..fti.block_bytes(b)])?;

@@ -12,8 +12,7 @@
 //!   of no object. `verdict`: the answer by these two.
 //! - `decoding`: the public call, and `selecting`: the same for a selection of a session's
 //!   datagrams, with what a check's yes promises of it.
-//! - `gathering`: the same for an object that is written block by block (`writing`), so that it is
-//!   never held.
+//! - `writing`: an object that is written block by block, so that it is never held.
 //!
 //! A block's source symbols come from `block_recovery`. Above this crate stand `file_decoder`,
 //! which decodes a session file, and `receiver`, which is fed one datagram at a time.
@@ -23,7 +22,6 @@ mod answer;
 mod coded_source;
 mod counting;
 mod decoding;
-mod gathering;
 mod selecting;
 mod source;
 mod unsolvable;
@@ -34,7 +32,6 @@ pub use answer::{Answer, Short};
 pub use coded_source::CodedSource;
 pub use counting::have;
 pub use decoding::decode;
-pub use gathering::{ObjectSymbols, gather};
 pub use selecting::{decode_selection, one_answer};
 pub use source::{Source, Unread};
 pub use verdict::{first_of_no_object, short_verdict, unsound_answer};

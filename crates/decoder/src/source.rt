@@ -6,7 +6,6 @@ ghost use Rattle.partition.specs.Fti.{Fti as FtiValue, block_count};
 ghost use Rattle.block_code.specs.Codes.{EachBlockHas};
 ghost use Rattle.block_code.specs.CodesOf.{IsCodeOf};
 ghost use Rattle.block_code.specs.declared.codes.BlockCodes.{BlockCodes as BlockCodesValue};
-ghost use Rattle.block_recovery.specs.Columns.{ColumnExplained};
 ghost use Rattle.block_recovery.specs.Decoded.{AreWithin, IsEnoughAt, AreRows, IsUnexplained};
 ghost use Rattle.block_recovery.specs.Received.{bytes_at};
 ghost use Rattle.block_recovery.specs.Recoveries.{IsKeptOf};
@@ -88,23 +87,18 @@ pub trait Source {
         ensures { IfOk result (λ workspace. (codes : BlockCodesValue)
             → Fits self.now codes workspace) };
 
-    /// The source symbols of a block, if all that came of it are symbols of an object; `are_sound`
-    /// says that this is known.
+    /// The source symbols of a block, if all that came of it are symbols of an object.
     fn rows(
         &self,
         alloc: Global,
         codes: &BlockCodes,
         b: u32,
-        are_sound: bool,
         workspace: &mut Self::Workspace,
     ) -> Result<Option<Rows>, Unread>
         requires number { b < block_count (known self.now) }
         requires codes { EachBlockHas (IsCodeOf (known self.now)) (known self.now) codes.now }
         requires within { Told self.now → AreWithin (known self.now) (at self.now) }
         requires enough { IsEnoughAt (known self.now) b (at self.now b) }
-        requires sound { are_sound ≡ true → Told self.now
-            → (c : ℕ) → c < (known self.now).symbol_length
-            → ColumnExplained (known self.now) b (at self.now b) c }
         requires fits { Fits self.now codes.now workspace.old }
         ensures rows { Told self.now → IfOk result (λ o. IfSome o (λ rows.
             AreRows (known self.now) b (at self.now b) rows.bytes.items)) }
@@ -148,9 +142,8 @@ impl Source for Received<'_> {
         alloc: Global,
         codes: &BlockCodes,
         b: u32,
-        are_sound: bool,
         workspace: &mut Option<Recovery>,
     ) -> Result<Option<Rows>, Unread> {
-        Ok(received_rows(alloc, self, codes, b, are_sound, workspace)?)
+        Ok(received_rows(alloc, self, codes, b, workspace)?)
     }
 }

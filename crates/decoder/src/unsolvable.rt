@@ -52,7 +52,7 @@ pub(crate) fn first_unsolvable<S: Source>(
         }
         if coded
             .source
-            .rows(alloc, coded.codes, *b, false, &mut workspace)?
+            .rows(alloc, coded.codes, *b, &mut workspace)?
             .is_none()
         {
             least = Some(*b);

@@ -2,7 +2,7 @@
 ghost use Rattle.std.specs.Prelude.{IsNone, IfOk, IfErr, IfSome, MatchBool};
 ghost use Rattle.decoder.specs.Answers.{answer_value};
 ghost use Rattle.decoder.specs.Answered.{Answers, NoneIsShort};
-ghost use Rattle.decoder.specs.Gathering.{IsNoObject};
+ghost use Rattle.decoder.specs.Objects.{IsNoObject};
 ghost use Rattle.decoder.specs.Sources.{IsUnreadOf};
 ghost use Rattle.decoder.specs.Unsolvable.{AreSound, SomeUnsound};
 ghost use Rattle.decoder.specs.Written.{IsVerdict};
@@ -37,7 +37,7 @@ fn has_unsolvable<S: Source>(alloc: Global, coded: &CodedSource<'_, S>) -> Resul
         }
         if coded
             .source
-            .rows(alloc, coded.codes, b, false, &mut workspace)?
+            .rows(alloc, coded.codes, b, &mut workspace)?
             .is_none()
         {
             return Ok(true);
@@ -101,24 +101,5 @@ pub fn short_verdict<S: Source>(
     match first_short(coded.source) {
         Some(short) => Ok(Some(short_answer(alloc, coded, short)?)),
         None => Ok(None),
-    }
-}
-
-/// The answer to what came, where it is no object, and `None` where it is one.
-pub(crate) fn verdict<S: Source>(
-    alloc: Global,
-    coded: &CodedSource<'_, S>,
-) -> Result<Option<Answer>, Unread>
-    ensures told { S.Told coded.now.source.now
-        → IfOk result (IsVerdict (S.known coded.now.source.now) (S.at coded.now.source.now)) }
-    ensures none { IfOk result (λ o. IfSome o IsNoObject) }
-    ensures enough { IfOk result (λ o. IsNone o
-        → NoneIsShort (S.known coded.now.source.now) (S.at coded.now.source.now)) }
-    ensures fault { IfErr result
-        (IsUnreadOf (S.Told coded.now.source.now) (S.reliable coded.now.source.now)) }
-{
-    match short_verdict(alloc, coded)? {
-        Some(answer) => Ok(Some(answer)),
-        None => first_of_no_object(alloc, coded),
     }
 }

@@ -2,7 +2,7 @@
 ghost use Rattle.std.specs.Prelude.{◌≡◌, ◌<◌, true, false, IfErr, IfOk, OnErr};
 ghost use Rattle.decoder.specs.Answered.{NoneIsShort};
 ghost use Rattle.decoder.specs.Sources.{IsWriteFaultOf};
-ghost use Rattle.decoder.specs.Unsolvable.{AreSound, SomeUnsound};
+ghost use Rattle.decoder.specs.Unsolvable.{SomeUnsound};
 ghost use Rattle.decoder.specs.Written.{WritesObject, BeginsObject};
 
 use crate::coded_source::CodedSource;
@@ -46,16 +46,13 @@ impl From<AllocError> for WriteFault {
 }
 
 /// Solves the blocks one by one, and writes each before the next, as long as they are of an object.
-/// Answers whether all are. `are_sound` says that this is known.
+/// Answers whether all are.
 pub fn write_blocks<S: Source, W: Write>(
     alloc: Global,
     coded: &CodedSource<'_, S>,
-    are_sound: bool,
     writer: &mut W,
 ) -> Result<bool, WriteFault>
     requires enough { NoneIsShort (S.known coded.now.source.now) (S.at coded.now.source.now) }
-    requires sound { are_sound ≡ true → S.Told coded.now.source.now
-        → AreSound (S.known coded.now.source.now) (S.at coded.now.source.now) }
     ensures whole { S.Told coded.now.source.now → IfOk result (λ v. v ≡ true
         → WritesObject (S.known coded.now.source.now) (S.at coded.now.source.now)
         (W.contents writer.old) (W.contents writer.new)) }
@@ -74,10 +71,7 @@ pub fn write_blocks<S: Source, W: Write>(
     let count = fti.block_count();
     let mut workspace = coded.source.workspace(alloc)?;
     for b in 0..count {
-        let Some(rows) = coded
-            .source
-            .rows(alloc, coded.codes, b, are_sound, &mut workspace)?
-        else {
+        let Some(rows) = coded.source.rows(alloc, coded.codes, b, &mut workspace)? else {
             return Ok(false);
         };
         // The rows of a source that isn't told may be shorter.

@@ -1,5 +1,5 @@
 -- Places of packets that are kept one by one.
-use Rattle.std.specs.Prelude.{◌≢◌, Result, Ok, Err, IsOk, nat_lt, is_some, option_map, ◌==◌}
+use Rattle.std.specs.Prelude.{◌≢◌, Result, Ok, Err, IsOk, nat_lt, option_map, ◌==◌}
 use Rattle.std.specs.List.{All, Contains}
 use Rattle.std.proofs.Common.{◌≡◌, ℕ, zero, suc, ◌+◌, ◌<◌, ◌≤◌, true, false, List, [], ◌∷◌, ◌++◌, Option, Some, None, length, get_or, take, refl, sym, ap, subst, ◌∙◌, inl, inr, arith}
 use Rattle.std.proofs.lemmas.Bool.{cases_eq, ne_eqb, and_parts}
@@ -99,9 +99,6 @@ more_placed x scope old new block a placed here more others b = elim (cases_eq b
       (one_all (λ (s : Arrival Place). IsSymbolIn x scope block s.esi s.symbol) a here)))
   | inr ne ↦ subst (AreOfBlock x scope b) (sym (others b (ne_eqb block b ne))) (placed b)
 ]
-
-some_is : (o p : Option (List ℕ)) → o ≡ p → is_some o ≡ true → is_some p ≡ true
-some_is o p e some = sym (ap is_some e) ∙ some
 
 pub none_in_range : (f : Fti) (at : ℕ → ℕ → Option (List ℕ)) → ((b j : ℕ) → at b j ≡ None) → AreInRange f at
 none_in_range f at none = record {

@@ -27,7 +27,7 @@ use Rattle.file_decoder.specs.declared.file_source.Indexed.{Indexed}
 use Rattle.decoder.proofs.Answering.{stand_of}
 use Rattle.decoder.proofs.BytesOfSymbols.{have_bytes}
 use Rattle.file_decoder.proofs.FromFile.{told_if, told_is}
-use Rattle.decoder.proofs.GatheredSymbols.{answer_of, begun_of}
+use Rattle.decoder.proofs.OfDatagrams.{answer_of, begun_of}
 use Rattle.decoder.proofs.Unsound.{none_unsound}
 
 -- where the places in a file are those of some of its datagrams, where its bytes are told

@@ -5,7 +5,7 @@ use Rattle.reception.specs.declared.scope.Identity.{Identity}
 use Rattle.reception.specs.Answer.{IsAnswer}
 use Rattle.decoder.specs.Answers.{answer_value}
 use Rattle.file_decoder.specs.FileFaults.{IsFrameFault, IsNotAgain}
-use Rattle.decoder.specs.Gathering.{IsNoObject}
+use Rattle.decoder.specs.Objects.{IsNoObject}
 use Rattle.file_decoder.specs.PlacesOf.{ArePlacedOf, ArePlacedIn}
 use Rattle.file_decoder.specs.declared.indexed_file.FileFault.{FileFault}
 use Rattle.file_decoder.specs.declared.indexed_file.FileFault.TheVariants as file_fault

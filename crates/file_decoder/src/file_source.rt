@@ -71,13 +71,11 @@ impl<'a, F: ReadAt> Source for FileSource<'a, F> {
         })
     }
 
-    // All symbols are looked at, whatever is known of them: the file may have changed.
     fn rows(
         &self,
         alloc: Global,
         codes: &BlockCodes,
         b: u32,
-        _are_sound: bool,
         workspace: &mut FileWorkspace<'a, F>,
     ) -> Result<Option<Rows>, Unread> {
         let fti = &self.indexed.fti;
@@ -85,6 +83,6 @@ impl<'a, F: ReadAt> Source for FileSource<'a, F> {
         let came = self.indexed.symbols.of_block(b).unwrap_or(&[]);
         let again = read_block_again(alloc, &mut workspace.reader, &scope, b, came)?;
         let arrivals = symbols_below(alloc, &again, fti.n(b))?;
-        Ok(block_rows(alloc, fti, codes, b, &arrivals, false, &mut workspace.kept)?)
+        Ok(block_rows(alloc, fti, codes, b, &arrivals, &mut workspace.kept)?)
     }
 }

@@ -9,7 +9,7 @@ ghost use Rattle.file_decoder.specs.PlacesOf.{ArePlacedIn, ArePlacedOf};
 ghost use Rattle.decoder.specs.Answers.{answer_value};
 ghost use Rattle.file_decoder.specs.IndexedIn.{IsFileWriteFault, IsIndexedIn};
 ghost use Rattle.file_decoder.specs.PlacesOf.{AreIndexedOf};
-ghost use Rattle.decoder.specs.Gathering.{IsNoObject, IsWrittenOf};
+ghost use Rattle.decoder.specs.Objects.{IsNoObject, IsWrittenOf};
 ghost use Rattle.block_recovery.specs.Received.{came_at};
 ghost use Rattle.block_recovery.specs.Decoded.{AreInRange};
 ghost use Rattle.file_decoder.specs.declared.rereading.Place.{Place as PlaceValue};
@@ -231,7 +231,7 @@ impl FileSymbols {
             source: &source,
             codes: &self.codes,
         };
-        match write_blocks(alloc, &coded, false, writer) {
+        match write_blocks(alloc, &coded, writer) {
             Ok(true) => Ok(None),
             Ok(false) => match unsound_answer(alloc, &coded) {
                 Ok(answer) => Ok(Some(answer)),

@@ -8,7 +8,7 @@ use Rattle.session.specs.declared.frame.FrameFault.TheVariants as frame_fault
 use Rattle.reception.specs.Answer as value
 use Rattle.reception.specs.Answer.{IsAnswer}
 use Rattle.decoder.specs.Answers.{answer_value}
-use Rattle.decoder.specs.Gathering.{IsNoObject, IsWrittenOf}
+use Rattle.decoder.specs.Objects.{IsNoObject, IsWrittenOf}
 use Rattle.file_decoder.specs.FileFaults.{IsFrameFault, IsNotAgain}
 use Rattle.decoder.specs.declared.source.Unread.{Unread}
 use Rattle.decoder.specs.declared.source.Unread.TheVariants as unread

@@ -8,7 +8,7 @@ ghost use Rattle.commands.specs.Inputs.{ASession, IsUnread};
 ghost use Rattle.request.specs.declared.requests.Request.TheVariants.{Decode};
 ghost use Rattle.decoder.specs.Answers.{answer_value};
 ghost use Rattle.block_recovery.specs.Faults.{fault_value};
-ghost use Rattle.decoder.specs.Gathering.{IsNoObject, IsWrittenOf};
+ghost use Rattle.decoder.specs.Objects.{IsNoObject, IsWrittenOf};
 ghost use Rattle.reception.specs.Answer.{IsAnswer};
 ghost use Rattle.commands.specs.Commands.{answer_status};
 ghost use Rattle.commands.specs.Doing.{HasMade, HasStopped};

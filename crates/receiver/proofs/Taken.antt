@@ -13,7 +13,7 @@ use Rattle.reception.specs.Walks.{readings_of}
 use Rattle.reception.specs.Within.{IsWithin}
 use Rattle.reception.specs.Answer.{Missing, Object, IsAnswer, clash, reception_of}
 use Rattle.reception.specs.Answer as value
-use Rattle.reception.proofs.OneAnswer.{one_answer, same_readings}
+use Rattle.reception.proofs.OneAnswer.{same_readings}
 use Rattle.reception.proofs.Within.{within}
 use Rattle.block_recovery.specs.Columns.{ColumnExplained}
 use Rattle.block_recovery.specs.Decoded.{IsEnoughAt}
@@ -189,17 +189,6 @@ module _ (r : Receiving) (told : Fti → Option (ℕ → List ℕ)) (ds : List (
       full = all_full store valid keeps.1.holds.0 keeps.1.at keeps.1.holds.2 (reception_of r.identity (readings_of ds)).symbols keeps.1.index all_within all;
     }
 
-    pub some_short : (s : Short) → ((bytes : ℕ → List ℕ) (at : ℕ → ℕ → Option (List ℕ)) → Holds store bytes at → IsShort store.fti at s) → ¬ LeaveNoneShort r.identity ds
-    some_short s short none =
-        let first = (short keeps.1.holds.0 keeps.1.at keeps.1.holds.2 (reception_of r.identity (readings_of ds)).symbols keeps.1.index all_within).0 in
-        let other = (here_full none).0 in
-        let known = keeps.0 in
-        let same : none.fti ≡ store.fti = cc in
-        let full : AllFull store.fti (reception_of r.identity (readings_of ds)).symbols = subst (λ (f : Fti). AllFull f (reception_of r.identity (readings_of ds)).symbols) same (here_full none).1 in
-        let x = full s.block first.in_range in
-        let y = first.short in
-        absurd (cc)
-
     module _ (valid : IsValidFti store.fti) (all : AllSolved store) (bytes : ℕ → List ℕ) (known : told store.fti ≡ Some bytes) where
       -- the object of the solved blocks is the answer
       pub object_taken : IsAnswer r.identity ds (Object (object_in store.fti bytes))
@@ -210,15 +199,3 @@ module _ (r : Receiving) (told : Fti → Option (ℕ → List ℕ)) (ds : List (
       object_length =
           let answers = object_in_answers store valid bytes keeps.1.at (holds_told bytes known) all (reception_of r.identity (readings_of ds)).symbols keeps.1.index all_within in
           answers.2.fits.form.count
-
-      -- there is no other
-      pub object_same : (object : List ℕ) → IsAnswer r.identity ds (Object object) → object_in store.fti bytes ≡ object
-      object_same object answer =
-          let e = one_answer r.identity ds (Object (object_in store.fti bytes)) (Object object) object_taken answer in
-          cc
-
--- a block that is short, of all that the store may hold
-pub short_is : (store : Store) (o : Option Short) → is_some o ≡ true → ((bytes : ℕ → List ℕ) (at : ℕ → ℕ → Option (List ℕ)) → Holds store bytes at → IfSome o (IsShort store.fti at))
-    → (s : Short) × ((bytes : ℕ → List ℕ) (at : ℕ → ℕ → Option (List ℕ)) → Holds store bytes at → IsShort store.fti at s)
-short_is store None some h = absurd (cc)
-short_is store (Some s) some h = (s, h)

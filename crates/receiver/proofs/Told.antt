@@ -13,10 +13,6 @@ use Rattle.receiver.specs.declared.receiver.FeedFault.{FeedFault}
 use Rattle.receiver.specs.declared.receiver.FeedFault.TheVariants.{Fault, Full, Early, NoMemory, Failed}
 use Rattle.block_bytes.specs.Bytes.{StandIn, Becomes, Puts}
 
--- what is told is one
-pub one_told : (told : Option (ℕ → List ℕ)) (x y : ℕ → List ℕ) → told ≡ Some x → told ≡ Some y → x ≡ y
-one_told told x y a b = cc
-
 pub told_bytes : (told : Option (ℕ → List ℕ)) (x : ℕ → List ℕ) (b from : ℕ) (bytes : List ℕ) → told ≡ Some x → StandIn told b from bytes → bytes ≡ take (length bytes) (drop from (x b))
 told_bytes None x b from bytes is h = absurd (cc)
 told_bytes (Some y) x b from bytes is h =

@@ -15,8 +15,8 @@
 //! - `receiving`: the same but for the bytes of symbols, which are kept wherever the caller says
 //!   (the crate `block_bytes`). A `Receiver` keeps them in memory;
 //! - `file_receiver`: a receiver that keeps them in the output that the object is for;
-//! - `feeding` takes one datagram more, and `taking` gives the answer, or writes the object block
-//!   by block; `storing` tells how much is kept;
+//! - `feeding` takes one datagram more, and `taking` gives the answer; `storing` tells how much is
+//!   kept;
 //! - `store`: what it keeps of an object beside bytes. Of each block these are the ESIs that came,
 //!   and nothing else (`esis`). While they are too few, the block's bytes are their symbols, one
 //!   behind the other (`pending_block`). From then on these are its source symbols

@@ -196,7 +196,7 @@ impl Esis {
         let symbols = symbols_with(alloc, esis, &came, packet.esi, packet.symbol, n)?;
         let codes = &solver.codes;
         let recovery = &mut solver.recovery;
-        let Some(rows) = block_rows(alloc, fti, codes, b, &symbols, false, recovery)? else {
+        let Some(rows) = block_rows(alloc, fti, codes, b, &symbols, recovery)? else {
             return Err(FeedFault::Fault(DecodeFault::NotCode(b)));
         };
         self.reserve(alloc, b)?;

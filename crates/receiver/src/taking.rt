@@ -1,10 +1,8 @@
-//! What a receiver gives: the answer to the datagrams that it accepted, and the object block by
-//! block.
-ghost use Rattle.std.specs.Prelude.{◌≡◌, ◌<◌, ℕ, List, Option, Ok, None, true, length, IfOk};
+//! What a receiver gives: the answer to the datagrams that it accepted.
+ghost use Rattle.std.specs.Prelude.{◌≡◌, ◌<◌, ℕ, List, Option, true, IfOk};
 ghost use Rattle.std.specs.Prelude.{IfSome, IsSome, IsNone, OnErr};
-ghost use Rattle.session.specs.Frames.{AppendsSome};
 ghost use Rattle.partition.specs.Fti.{block_count};
-ghost use Rattle.reception.specs.Answer.{Object, IsAnswer};
+ghost use Rattle.reception.specs.Answer.{IsAnswer};
 ghost use Rattle.decoder.specs.Answers.{answer_value, IsNoFault};
 ghost use Rattle.decoder.specs.Answered.{IsShort};
 ghost use Rattle.receiver.specs.Holds.{Holds, has_solved};
@@ -13,13 +11,11 @@ ghost use Rattle.receiver.specs.Filed.{IsLack};
 ghost use Rattle.receiver.specs.Stands.{Stands, StandsWith};
 ghost use Rattle.receiver.specs.Receiving.{LeaveNoneShort};
 ghost use Rattle.receiver.specs.Taking.{IsShortBlock, AllSolved};
-ghost use Rattle.decoder.specs.Gathering.{IsWrittenOf};
 
 use crate::receiver::Receiver;
 use crate::receiving::Receiving;
 use crate::store::Store;
 use decoder::{Answer, Short};
-use session::{Failed, Write};
 use std::alloc::{AllocError, Global};
 
 impl Store {
@@ -110,37 +106,5 @@ impl Receiver {
             }),
             None => Ok(Answer::Object(self.blocks.object(alloc, &store.fti)?)),
         }
-    }
-
-    /// Writes the object block by block, so that it is never held whole, and answers its length in
-    /// bytes. `None` is where a block is short or no carrier came, and nothing is written then.
-    /// `Failed` comes only where no block is short and the writer has failed, and never where it
-    /// has room for the object. It has a beginning of it then.
-    pub fn write_object<W: Write>(&self, writer: &mut W) -> Result<Option<u64>, Failed>
-        ensures written { (ds : List (List ℕ)) → Stands self.now ds
-            → IfOk result (λ o. IfSome o (IsWrittenOf self.now.receiving.identity ds
-            (W.contents writer.old) (W.contents writer.new))) }
-        ensures short { (ds : List (List ℕ)) → Stands self.now ds
-            → IfOk result (λ o. IsNone o → ¬ LeaveNoneShort self.now.receiving.identity ds) }
-        ensures late { (ds : List (List ℕ)) → Stands self.now ds
-            → OnErr result (LeaveNoneShort self.now.receiving.identity ds) }
-        ensures front { (ds : List (List ℕ)) (object : List ℕ) → Stands self.now ds
-            → IsAnswer self.now.receiving.identity ds (Object object)
-            → OnErr result (AppendsSome (W.contents writer.old) (W.contents writer.new) object) }
-        ensures nothing { result ≡ Ok None → writer.new ≡ writer.old }
-        ensures fails { OnErr result (W.failed writer.new ≡ true) }
-        ensures full { (ds : List (List ℕ)) (object : List ℕ) → Stands self.now ds
-            → IsAnswer self.now.receiving.identity ds (Object object)
-            → OnErr result (W.room writer.old < length object) }
-    {
-        let Some(store) = &self.receiving.store else {
-            return Ok(None);
-        };
-        store.fti.is_valid();
-        if store.first_short().is_some() {
-            return Ok(None);
-        }
-        self.blocks.write_object(&store.fti, writer)?;
-        Ok(Some(store.fti.transfer_length()))
     }
 }

@@ -10,14 +10,13 @@ use Rattle.block_code.proofs.Sizes.{picked_has}
 use Rattle.block_recovery.specs.Blocks.{bytes_of_esi, byte_of, given, AreOnly}
 use Rattle.block_recovery.specs.Decoded.{row_byte}
 use Rattle.block_recovery.specs.Rows.{byte_in}
-use Rattle.block_recovery.proofs.BlockRows.{can_be_met, stands_within, unexplained, rows_from, padding_zero}
+use Rattle.block_recovery.proofs.BlockRows.{stands_within, unexplained, rows_from, padding_zero}
 use Rattle.block_recovery.proofs.Erased.{sum_none_same, sum_itself}
 use Rattle.block_recovery.proofs.Erasing.{erased_as, enough_repair, few_repair, erasures_of, none_byte, some_bytes}
-use Rattle.block_recovery.proofs.Meetings.{are_only, known_only, none_meets}
+use Rattle.block_recovery.proofs.Meetings.{are_only, none_meets}
 use Rattle.block_recovery.proofs.RowPlaces.{row_and_column}
 use Rattle.block_recovery.proofs.Those.{few_pass}
 use Rattle.block_recovery.proofs.blocks.block_rows.Goals as goal
-use Rattle.block_recovery.proofs.blocks.block_rows.Goals.{then-not-are_sound+in_ok-left+else-not-is_zero, else-not-are_sound}
 
 pub symbols_at-requires-clause-within : goal.symbols_at-requires-clause-within
 symbols_at-requires-clause-within c = λ m lm.
@@ -114,13 +113,13 @@ returns-then-not-is_zero-clause-none c = λ _.
     let few : c.of-code.result.now.matrix.rows ≤ 255 = omega (arith, code.rows, c.k-k.ensures.value, c.k-k.ensures.byte) in
     let left = c.in_ok-left.left in
     let o = c.if-not-is_zero.ensures.other refl in
-    let lt : o.0 < left.count * left.size = omega (arith, o.1, ap length c.deref-then-not-are_sound.ensures.value, left.whole) in
+    let lt : o.0 < left.count * left.size = omega (arith, o.1, ap length c.deref-4.ensures.value, left.whole) in
     let q = row_and_column o.0 left.count left.size (some_bytes o.0 left.count left.size lt) lt in
     let lm : q.0 < length c.split_at.result.1.now = omega (arith, q.2, c.in_ok-left.ensures.sizes.rows_are) in
     let ly : q.1 < c.from.result = omega (arith, q.3, c.in_ok-left.ensures.sizes.bytes_are) in
     unexplained f c.args.b at g c.from.result few inside code is
     (none_meets at c.from.result g c.deref-3.result.now c.deref-2.result.now c.split_at.result.0.now c.split_at.result.1.now erased le front rest (byte_in c.in_ok-rows.rows) (byte_in c.solve.new.rows) placed c.in_ok-solve.ensures.solved q.0 q.1 lm ly
-    (λ e. o.2 (ap (λ (l : List ℕ). slice_index l o.0) c.deref-then-not-are_sound.ensures.value ∙ ap (slice_index left.bytes.items) (sym q.4)
+    (λ e. o.2 (ap (λ (l : List ℕ). slice_index l o.0) c.deref-4.ensures.value ∙ ap (slice_index left.bytes.items) (sym q.4)
     ∙ c.in_ok-left.ensures.sums q.0 q.1 lm ly
     ∙ ap (sum_of (byte_of (at (slice_index c.split_at.result.1.now q.0)) q.1)) e ∙ sum_itself (byte_of (at (slice_index c.split_at.result.1.now q.0)) q.1))))
 
@@ -151,17 +150,11 @@ returns-then-are_padded-clause-rows c =
     let made_is : (i y : ℕ) → byte_in c.solve.new.rows i y ≡ row_byte c.solve.new.rows.bytes.items c.args.fti.now.symbol_length y i =
     λ i y. ap (λ (s : ℕ). slice_index c.solve.new.rows.bytes.items (i * s + y)) (bytes_are ∙ is) in
     let only : AreOnly (bytes_of_esi c.args.arrivals.now) c.of-code.result.now.matrix c.from.result (byte_in c.solve.new.rows) =
-    elim c.if-not-are_sound.branch [
-      | then-not-are_sound+in_ok-left+else-not-is_zero w ↦
-          are_only at c.from.result g c.deref-3.result.now c.deref-2.result.now c.split_at.result.0.now c.split_at.result.1.now erased le front rest (byte_in c.in_ok-rows.rows) (byte_in c.solve.new.rows) placed c.in_ok-solve.ensures.solved
-          (λ m y lm ly. sum_none_same (byte_of (at (slice_index c.split_at.result.1.now m)) y) (given g (λ i. byte_in c.solve.new.rows i y) (slice_index c.split_at.result.1.now m))
-          (sym (w.in_ok-left.ensures.sums m y lm ly)
-          ∙ sym (ap (λ (l : List ℕ). slice_index l (m * w.in_ok-left.left.size + y)) w.deref-then-not-are_sound.ensures.value) ∙ w.if-not-is_zero.ensures.zero refl (m * w.in_ok-left.left.size + y)))
-      | else-not-are_sound w ↦
-          known_only at c.from.result g c.deref-3.result.now c.deref-2.result.now c.split_at.result.0.now c.split_at.result.1.now erased le front rest (byte_in c.in_ok-rows.rows) (byte_in c.solve.new.rows) placed c.in_ok-solve.ensures.solved
-          (can_be_met f c.args.b at g c.from.result few inside code is (c.requires.sound w.if-not-are_sound.false))
-    ] in
-    let bytes : AreBytes c.solve.new.rows.bytes.items = rw c.deref-4.ensures.value at c.are_bytes.ensures in
+    are_only at c.from.result g c.deref-3.result.now c.deref-2.result.now c.split_at.result.0.now c.split_at.result.1.now erased le front rest (byte_in c.in_ok-rows.rows) (byte_in c.solve.new.rows) placed c.in_ok-solve.ensures.solved
+    (λ m y lm ly. sum_none_same (byte_of (at (slice_index c.split_at.result.1.now m)) y) (given g (λ i. byte_in c.solve.new.rows i y) (slice_index c.split_at.result.1.now m))
+    (sym (c.in_ok-left.ensures.sums m y lm ly)
+    ∙ sym (ap (λ (l : List ℕ). slice_index l (m * c.in_ok-left.left.size + y)) c.deref-4.ensures.value) ∙ c.if-not-is_zero.ensures.zero refl (m * c.in_ok-left.left.size + y))) in
+    let bytes : AreBytes c.solve.new.rows.bytes.items = rw c.deref-5.ensures.value at c.are_bytes.ensures in
     rows_from f c.args.b at g c.from.result few inside code is rows.bytes.items (byte_in rows) made_is only bytes
     (rows.whole ∙ products _ _ _ _ (rows_are ∙ code.rows) (bytes_are ∙ is))
     (c.are_padded.ensures.zero c.if-are_padded.true)
@@ -193,16 +186,10 @@ returns-else-are_padded-clause-none c = λ _.
     let made_is : (i y : ℕ) → byte_in c.solve.new.rows i y ≡ row_byte c.solve.new.rows.bytes.items c.args.fti.now.symbol_length y i =
     λ i y. ap (λ (s : ℕ). slice_index c.solve.new.rows.bytes.items (i * s + y)) (bytes_are ∙ is) in
     let only : AreOnly (bytes_of_esi c.args.arrivals.now) c.of-code.result.now.matrix c.from.result (byte_in c.solve.new.rows) =
-    elim c.if-not-are_sound.branch [
-      | then-not-are_sound+in_ok-left+else-not-is_zero w ↦
-          are_only at c.from.result g c.deref-3.result.now c.deref-2.result.now c.split_at.result.0.now c.split_at.result.1.now erased le front rest (byte_in c.in_ok-rows.rows) (byte_in c.solve.new.rows) placed c.in_ok-solve.ensures.solved
-          (λ m y lm ly. sum_none_same (byte_of (at (slice_index c.split_at.result.1.now m)) y) (given g (λ i. byte_in c.solve.new.rows i y) (slice_index c.split_at.result.1.now m))
-          (sym (w.in_ok-left.ensures.sums m y lm ly)
-          ∙ sym (ap (λ (l : List ℕ). slice_index l (m * w.in_ok-left.left.size + y)) w.deref-then-not-are_sound.ensures.value) ∙ w.if-not-is_zero.ensures.zero refl (m * w.in_ok-left.left.size + y)))
-      | else-not-are_sound w ↦
-          known_only at c.from.result g c.deref-3.result.now c.deref-2.result.now c.split_at.result.0.now c.split_at.result.1.now erased le front rest (byte_in c.in_ok-rows.rows) (byte_in c.solve.new.rows) placed c.in_ok-solve.ensures.solved
-          (can_be_met f c.args.b at g c.from.result few inside code is (c.requires.sound w.if-not-are_sound.false))
-    ] in
+    are_only at c.from.result g c.deref-3.result.now c.deref-2.result.now c.split_at.result.0.now c.split_at.result.1.now erased le front rest (byte_in c.in_ok-rows.rows) (byte_in c.solve.new.rows) placed c.in_ok-solve.ensures.solved
+    (λ m y lm ly. sum_none_same (byte_of (at (slice_index c.split_at.result.1.now m)) y) (given g (λ i. byte_in c.solve.new.rows i y) (slice_index c.split_at.result.1.now m))
+    (sym (c.in_ok-left.ensures.sums m y lm ly)
+    ∙ sym (ap (λ (l : List ℕ). slice_index l (m * c.in_ok-left.left.size + y)) c.deref-4.ensures.value) ∙ c.if-not-is_zero.ensures.zero refl (m * c.in_ok-left.left.size + y))) in
     let w = c.are_padded.ensures.other c.if-are_padded.false in
     λ explained. w.5 (padding_zero f c.args.b at g c.from.result few inside code is rows.bytes.items (byte_in rows) made_is only explained w.0 w.1 w.2 w.3 w.4)
 

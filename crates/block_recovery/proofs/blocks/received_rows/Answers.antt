@@ -7,7 +7,7 @@ use Rattle.block_recovery.specs.Decoded.{AreRows, IsUnexplained}
 use Rattle.block_recovery.specs.Received.{bytes_at}
 use Rattle.block_recovery.proofs.Results.{if_ok, if_ok_some}
 use Rattle.block_recovery.proofs.Arrived.{arrived_or}
-use Rattle.block_recovery.proofs.BlockRows.{are_arrivals, have_length, enough_arrived, explained_at, rows_at, unexplained_at}
+use Rattle.block_recovery.proofs.BlockRows.{are_arrivals, have_length, enough_arrived, rows_at, unexplained_at}
 use Rattle.block_recovery.proofs.blocks.received_rows.Goals as goal
 
 pub block_rows-requires-clause-count : goal.block_rows-requires-clause-count
@@ -27,12 +27,6 @@ block_rows-requires-clause-enough c =
     let r = c.args.received.now in
     let a = are_arrivals r.fti c.args.b (bytes_at r.symbols) c.n.result _ c.deref.result.now c.n.ensures.value c.in_ok-arrivals.ensures.len (λ j lj. c.in_ok-arrivals.ensures.at j lj ∙ arrived_or (λ (x : Bor (List ℕ)). x.now) r.symbols c.args.b c.of_block.result _ c.unwrap_or-came.result c.unwrap_or-came.ensures refl c.of_block.ensures.none c.of_block.ensures.some j) c.deref.ensures.value in
     enough_arrived r.fti c.args.b (bytes_at r.symbols) c.requires.within c.deref.result.now a.len a.same c.requires.enough
-
-pub block_rows-requires-clause-sound : goal.block_rows-requires-clause-sound
-block_rows-requires-clause-sound c = λ sound.
-    let r = c.args.received.now in
-    let a = are_arrivals r.fti c.args.b (bytes_at r.symbols) c.n.result _ c.deref.result.now c.n.ensures.value c.in_ok-arrivals.ensures.len (λ j lj. c.in_ok-arrivals.ensures.at j lj ∙ arrived_or (λ (x : Bor (List ℕ)). x.now) r.symbols c.args.b c.of_block.result _ c.unwrap_or-came.result c.unwrap_or-came.ensures refl c.of_block.ensures.none c.of_block.ensures.some j) c.deref.ensures.value in
-    explained_at r.fti c.args.b (bytes_at r.symbols) c.requires.within c.deref.result.now a.len a.same (c.requires.sound sound)
 
 pub returns-clause-rows : goal.returns-clause-rows
 returns-clause-rows c =

@@ -48,12 +48,6 @@ rows-requires-clause-enough g c =
     let many = rw c.fti-fti.ensures at c.block_count-count.ensures.value in
     c.requires.enough c.loop-b.b (omega (arith, many, c.loop-b-test.true))
 
-pub rows-requires-clause-sound : goal.rows-requires-clause-sound
-rows-requires-clause-sound g c = λ sound told.
-    let many = rw c.fti-fti.ensures at c.block_count-count.ensures.value in
-    let hb : c.loop-b.b < block_count (g.S.Source.known c.args.coded.now.source.now) = omega (arith, many, c.loop-b-test.true) in
-    c.requires.sound sound told c.loop-b.b hb (c.requires.enough c.loop-b.b hb)
-
 pub returns-in_err-rows-clause-front : goal.returns-in_err-rows-clause-front
 returns-in_err-rows-clause-front g c = λ told.
     let i = c.loop-b.invariant in

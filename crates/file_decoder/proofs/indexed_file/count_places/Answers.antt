@@ -15,7 +15,7 @@ use Rattle.file_decoder.specs.PlacesOf.{AreIndexedOf, ArePlacedIn, ArePlacedOf}
 use Rattle.file_decoder.specs.InFile.{held_in, AllStandIn}
 use Rattle.block_recovery.specs.Received.{came_at}
 use Rattle.file_decoder.proofs.FromFile.{told_is, told_if, enough_same, some_any, file_fault_of}
-use Rattle.decoder.proofs.GatheredSymbols.{answer_of}
+use Rattle.decoder.proofs.OfDatagrams.{answer_of}
 use Rattle.file_decoder.proofs.Placed.{indexed_bytes, indexed_stand, placed_framed}
 use Rattle.decoder.proofs.Unsound.{full_of_enough}
 use Rattle.file_decoder.proofs.indexed_file.count_places.Goals as goal

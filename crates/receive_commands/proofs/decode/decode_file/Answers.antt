@@ -3,12 +3,12 @@ use Rattle.request.specs.declared.requests.Request.TheVariants.{Decode}
 use Rattle.decoder.specs.Answers.{answer_value}
 use Rattle.std.specs.Prelude.{Option, IfOk, IfSome, IsNone}
 use Rattle.host.specs.World.{Files, IsFree}
-use Rattle.decoder.specs.Gathering.{IsNoObject}
+use Rattle.decoder.specs.Objects.{IsNoObject}
 use Rattle.receive_commands.proofs.Decoded.{none_decoded, session_held, because_changed, because_not_again, delivered, given_up, may_write, object_given, placed_of, refuted}
 use Rattle.commands.proofs.Stopping.{stopped, by_unread, passed_on, uncommitted}
 use Rattle.reception.specs.declared.scope.Identity.{Identity}
 use Rattle.reception.specs.Answer.{IsAnswer}
-use Rattle.decoder.specs.Gathering.{IsWrittenOf}
+use Rattle.decoder.specs.Objects.{IsWrittenOf}
 use Rattle.file_decoder.specs.PlacesOf.{ArePlacedOf}
 use Rattle.commands.specs.Doing.{text_of}
 use Rattle.commands.specs.declared.fault.Fault.TheVariants.{Memory}

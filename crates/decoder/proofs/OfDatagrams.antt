@@ -1,5 +1,5 @@
--- What is gathered of datagrams, and written, by what the symbols give that were received.
-use Rattle.std.proofs.Common.{◌≡◌, ℕ, List, Option, Result, Ok, Err, length, subst}
+-- What datagrams give, by what the symbols give that were received.
+use Rattle.std.proofs.Common.{◌≡◌, ℕ, List, Option, subst}
 use Rattle.session.specs.Frames.{AppendsSome}
 use Rattle.partition.specs.Fti.{Fti}
 use Rattle.reception.specs.declared.scope.Identity.{Identity}
@@ -10,26 +10,14 @@ use Rattle.reception.specs.Walks.{readings_of}
 use Rattle.reception.specs.Answer as value
 use Rattle.reception.specs.Answer.{IsAnswer, AnswerTo, reception_of}
 use Rattle.reception.proofs.OneAnswer.{same_readings}
-use Rattle.decoder.specs.Answers.{answer_value}
 use Rattle.decoder.specs.Answered.{Answers}
 use Rattle.block_recovery.specs.Received.{AreReceived}
-use Rattle.decoder.specs.Gathering.{IsGathered}
-use Rattle.decoder.specs.Written.{Gathers, BeginsObject}
-use Rattle.decoder.specs.declared.answer.Answer.{Answer}
-use Rattle.decoder.specs.declared.gathering.ObjectSymbols.{ObjectSymbols}
+use Rattle.decoder.specs.Written.{BeginsObject}
 use Rattle.decoder.proofs.Answering.{answered}
 
 module _ (who : Identity) (ds : List (List ℕ)) (f : Fti) (at : ℕ → ℕ → Option (List ℕ)) (read : ReadAll ds (readings_of ds)) (received : AreReceived who ds f at) where
   pub answer_of : (v : value.Answer) → Answers f at v → IsAnswer who ds v
   answer_of v h = record { readings = readings_of ds; read = read; answers = answered who ds f at v received h }
-
-  pub gathered_of : (g : Result ObjectSymbols Answer) → Gathers f at g → IsGathered who ds g
-  gathered_of (Err a) h = (answer_of (answer_value a) h.0, h.1)
-  gathered_of (Ok s) h = (
-    record { read = read; received = rw (h.0, h.1) received; enough = h.2 },
-    h.3,
-    answer_of (value.Object h.3) h.4,
-  )
 
   -- the object that the datagrams give is the only one that their symbols fit
   only_object : (object : List ℕ) → IsAnswer who ds (value.Object object) → FitsOnly f (reception_of who (readings_of ds)).symbols object
@@ -43,7 +31,3 @@ module _ (who : Identity) (ds : List (List ℕ)) (f : Fti) (at : ℕ → ℕ →
 
   pub begun_of : (before after : Option (List ℕ)) → BeginsObject f at before after → (object : List ℕ) → IsAnswer who ds (value.Object object) → AppendsSome before after object
   begun_of before after h object answer = h (reception_of who (readings_of ds)).symbols object received.index (only_object object answer)
-
-  -- the object is as long as the FTI tells
-  pub object_length : (object : List ℕ) → IsAnswer who ds (value.Object object) → length object ≡ f.transfer_length
-  object_length object answer = (only_object object answer).fits.form.count
