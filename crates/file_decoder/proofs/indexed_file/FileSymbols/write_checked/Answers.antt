@@ -16,8 +16,8 @@ invariant_of-coded g c =
       bytes = indexed_bytes content s.indexed of;
     }
 
-pub write_blocks-requires-clause-enough : goal.write_blocks-requires-clause-enough
-write_blocks-requires-clause-enough g c = placed_enough (g.F.ReadAt.content c.args.file.now) c.args.self.now c.requires.0
+pub write_blocks-requires : goal.write_blocks-requires
+write_blocks-requires g c = placed_enough (g.F.ReadAt.content c.args.file.now) c.args.self.now c.requires.0
 
 pub returns-in-Ok-true-clause-written : goal.returns-in-Ok-true-clause-written
 returns-in-Ok-true-clause-written g c = λ ds x told are _.
