@@ -17,7 +17,7 @@ invariant_of-coded g c =
     }
 
 pub write_blocks-requires : goal.write_blocks-requires
-write_blocks-requires g c = placed_enough (g.F.ReadAt.content c.args.file.now) c.args.self.now c.requires.0
+write_blocks-requires g c = record { enough = placed_enough (g.F.ReadAt.content c.args.file.now) c.args.self.now c.requires.0 }
 
 pub returns-in-Ok-true-clause-written : goal.returns-in-Ok-true-clause-written
 returns-in-Ok-true-clause-written g c = λ ds x told are _.
