@@ -2,15 +2,16 @@
 """Fails where release/ doesn't ship what the sources give.
 
 Each packed program has to have the sum that release/MANIFEST tells. If the manifest is of today's
-sources and of this toolchain, a fresh proved build has to be the same program, byte for byte. It is
-the last step alone, over the libraries that `rt ci` has just proved. What isn't compared is told,
-with the reason.
+sources and of this toolchain, a fresh proved build has to be the same program, byte for byte. For
+x86-64-v2 that is what `rt ci` has just built. For x86-64-v3 it is the last step alone, over the
+libraries that `rt ci` has just proved. What isn't compared is told, with the reason.
 """
 import gzip
 import hashlib
 import subprocess
 import sys
 import tempfile
+import zlib
 from pathlib import Path
 
 ROOT = Path(__file__).resolve().parent.parent
@@ -34,23 +35,23 @@ def sum_of(program):
 def sum_of_packed(level):
     try:
         return sum_of(gzip.decompress((RELEASE / f"alcrs-{level}.gz").read_bytes()))
-    except (OSError, EOFError) as error:
+    except (OSError, EOFError, zlib.error) as error:
         return f"none ({error})"
 
 
+def build(program, level):
+    log = Path(f"{program}.log")
+    words = [log, program, "--over-gate", f"--cpu={level}"]
+    if subprocess.run([ROOT / "scripts" / "build.py", *words]).returncode:
+        sys.exit(f"release.py: the program for {level} wasn't built\n{log.read_text()}")
+
+
 def sums_of_builds():
-    """The sums of the programs as they are built now, both at once."""
+    """The sums of the programs as they are built now."""
     with tempfile.TemporaryDirectory() as room:
-        builds = {
-            level: subprocess.Popen([
-                ROOT / "scripts" / "build.py", f"{room}/{level}.log", f"{room}/{level}",
-                "--over-gate", f"--cpu={level}",
-            ]) for level in LEVELS
-        }
-        for level, build in builds.items():
-            if build.wait():
-                sys.exit(f"{level} wasn't built\n{Path(room, f'{level}.log').read_text()}")
-        return {level: sum_of(Path(room, level).read_bytes()) for level in LEVELS}
+        programs = [ROOT / "crates" / "alcrs" / "out" / "alcrs", Path(room, LEVELS[1])]
+        build(programs[1], LEVELS[1])
+        return [(level, sum_of(it.read_bytes())) for level, it in zip(LEVELS, programs)]
 
 
 def main():
@@ -63,7 +64,7 @@ def main():
     elif toolchain != manifest["toolchain"]:
         print(f"release.py: not compared with a build, as the toolchain is {toolchain}")
     else:
-        found += [("built", *it) for it in sums_of_builds().items()]
+        found += [("built", *it) for it in sums_of_builds()]
     wrong = 0
     for what, level, told in found:
         is_same = told == manifest[level]
