@@ -271,11 +271,8 @@ def measured():
 
 
 def blocks_of(symbols, block, most):
-    """How many source and encoding symbols each block has (RFC 5052, section 9.1; RFC 5510)."""
-    count = -(-symbols // block)
-    small, large = divmod(symbols, count)
-    sources = [small + 1] * large + [small] * (count - large)
-    return [(k, k * most // block) for k in sources]
+    """How many source and encoding symbols each block has."""
+    return list(collections.Counter(random_loss.blocks_of(symbols, block, most)).elements())
 
 
 def burst_of(blocks, order):

@@ -1,9 +1,9 @@
 #!/usr/bin/env python3
 """Tells the evenly random loss at which one listener in a thousand fails to get the object.
 
-It reads what `alcrs check` prints at a yes, or any lines `block b need k have h`. A listener fails
-if of some block fewer than k of its h symbols come. Each datagram is missed by itself, with the
-same chance.
+It reads what `alcrs check` prints at a yes, or any lines `block b need k have h`: `--summary` has
+only one of them. A listener fails if of some block fewer than k of its h symbols come. Each
+datagram is missed by itself, with the same chance. `plan` uses the same rule.
 
     alcrs check SESSION OBJECT CERT --tsi N --toi N | random_loss.py [--one-in 1000]
 """
@@ -13,8 +13,20 @@ import math
 import sys
 
 
+def blocks_of(symbols, block, most):
+    """How many blocks have so many source and encoding symbols, of the first blocks first (RFC
+    5052, section 9.1; RFC 5510).
+    """
+    count = -(-symbols // block)
+    small, large = divmod(symbols, count)
+    sources = collections.Counter({small + 1: large, small: count - large})
+    return {(k, k * most // block): many for k, many in sources.items() if many}
+
+
 def chance_of_short(need, have, loss):
     """The chance that fewer than `need` of `have` symbols come, from the greatest term down."""
+    if have < need:
+        return 1.0
     if loss <= 0:
         return 0.0
     return math.fsum(
@@ -65,7 +77,7 @@ def main():
         if words[:1] == ["block"] and words[2:3] == ["need"] and words[4:5] == ["have"]:
             blocks[int(words[3]), int(words[5])] += 1
     if not blocks:
-        sys.exit("no line `block b need k have h`: is the answer of `alcrs check` yes?")
+        sys.exit("no line `block b need k have h`: is `alcrs check` run without --summary, and says yes?")
     loss = 100 * greatest_loss(blocks, 1 / one_in)
     print(f"random loss of {loss:.1f} %: one listener in {one_in:g} fails")
 
