@@ -314,7 +314,8 @@ def quiet_cases():
 
 
 def refused_cases():
-    whole, nothing = pcap(FRAMES), "nothing came: of the capture's 98 datagrams none that has bytes "
+    whole = pcap(FRAMES)
+    nothing = "nothing came: of the capture's 98 datagrams none that has bytes "
     yield "another port", whole, ["--address", GROUP, "--port", "4002"], 1, BEFORE, [
         f"session_of_capture: {nothing}went to {GROUP} port 4002"]
     yield "another TOI", whole, [*TO_GROUP, "--tsi", "7", "--toi", "2"], 1, BEFORE, [
@@ -327,10 +328,12 @@ def refused_cases():
     for size in range(0, len(frame), 5):
         snapped = pcap([*FRAMES[:5], (frame[:size], len(frame)), *FRAMES[6:]])
         for words in (TO_GROUP, [*TO_GROUP, *OF_BULLETIN]):
-            yield f"snapped at {size}", snapped, words, 1, BEFORE, ["frame 6, to", "the capture has"]
+            yield f"snapped at {size}", snapped, words, 1, BEFORE, [
+                "frame 6, to", "the capture has"]
     snapped = [(frame[:60], len(frame)) for frame in of_all(PARTS[:1])]
     yield "a snapped fragment", pcap(snapped + FRAMES), TO_GROUP, 1, BEFORE, ["of 282 bytes"]
-    for name, data in [("pcap", whole), ("pcapng", section(FRAMES)), ("gzip", gzip.compress(whole))]:
+    packed_too = gzip.compress(whole)
+    for name, data in [("pcap", whole), ("pcapng", section(FRAMES)), ("gzip", packed_too)]:
         for size in range(25, len(data), len(data) // 40):
             yield f"{name} cut at {size}", data[:size], TO_GROUP, 1, BEFORE, ["is cut off after"]
     for words in (
@@ -342,7 +345,7 @@ def refused_cases():
         yield f"refused {words}", whole, words, 2, BEFORE, ["session_of_capture --help says how"]
 
 
-def snapped_others(room):
+def snapped_others():
     """What is cut but goes elsewhere, or is of another object, is passed over."""
     others = [ethernet(ip(udp(it, port=4002))) for it in BULLETIN]
     snapped = [(frame[:60], len(frame)) for frame in others]
@@ -376,7 +379,8 @@ def try_damaged(room):
         for _ in range(40):
             data = bytearray(whole)
             for _ in range(chance.randint(1, 30)):
-                data[chance.randrange(24, len(data))] = chance.choice([0, 255, chance.randrange(256)])
+                value = chance.choice([0, 255, chance.randrange(256)])
+                data[chance.randrange(24, len(data))] = value
             cases.append(bytes(data))
     for found in in_turn(lambda it: room.run(it, TO_GROUP), cases):
         room.count += 1
@@ -453,7 +457,7 @@ def main():
         room = Room(folder)
         room.try_all(read_cases())
         room.try_all(refused_cases())
-        room.try_all(snapped_others(room))
+        room.try_all(snapped_others())
         try_quiet(room)
         try_damaged(room)
         try_live(room)

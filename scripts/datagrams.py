@@ -172,7 +172,7 @@ class Fragments:
         return Part(data, at)
 
     def take_lacking(self, before):
-        """Takes out what has waited since before a frame: each key, and the packet's first bytes."""
+        """Takes out what has waited since before a frame: each key, and the first bytes."""
         while self.waiting:
             key, (number, parts, _) = next(iter(self.waiting.items()))
             if number >= before:

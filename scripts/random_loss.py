@@ -77,7 +77,7 @@ def main():
         if words[:1] == ["block"] and words[2:3] == ["need"] and words[4:5] == ["have"]:
             blocks[int(words[3]), int(words[5])] += 1
     if not blocks:
-        sys.exit("no line `block b need k have h`: is `alcrs check` run without --summary, and says yes?")
+        sys.exit("no line `block b need k have h`: is it the yes of a check without --summary?")
     loss = 100 * greatest_loss(blocks, 1 / one_in)
     print(f"random loss of {loss:.1f} %: one listener in {one_in:g} fails")
 
