@@ -323,6 +323,9 @@ def quiet_cases():
         yield f"checksum {checksum}", pcap(frames), TO_GROUP, whole, alone
     frames = mixed(PARTS)
     yield "fragments in another order", pcap(frames), TO_GROUP, None, alone
+    # It tells more bytes than were sent, so that no listener gets it.
+    short = ethernet(ip(udp(BULLETIN[0])[:-1]))
+    yield "a wrong length", pcap([short, *FRAMES]), TO_GROUP, whole, alone.replace("0\n", "1\n")
     # Fragments of others, which lack some.
     other = fragments(udp(BULLETIN[0], port=4002), 500)[:1]
     yield "others lack fragments", pcap(FRAMES + of_all([other])), TO_GROUP, whole, alone
@@ -346,7 +349,11 @@ def refused_cases():
             yield f"snapped at {size}", snapped, words, 1, BEFORE, [
                 "frame 6, to", "the capture has"]
     snapped = [(frame[:60], len(frame)) for frame in of_all(PARTS[:1])]
-    yield "a snapped fragment", pcap(snapped + FRAMES), TO_GROUP, 1, BEFORE, ["of 282 bytes"]
+    yield "snapped fragments", pcap(snapped + FRAMES), TO_GROUP, 1, BEFORE, ["of 282 bytes"]
+    # The first one is cut before the TSI, and the others are whole.
+    first, *others = of_all(PARTS[:1])
+    yield "a snapped fragment", pcap([(first[:46], len(first)), *others, *FRAMES]), [
+        *TO_GROUP, *OF_BULLETIN], 1, BEFORE, ["frame 3, to", "has 4 of 282 bytes"]
     packed_too = gzip.compress(whole)
     for name, data in [("pcap", whole), ("pcapng", section(FRAMES)), ("gzip", packed_too)]:
         for size in range(25, len(data), len(data) // 40):
