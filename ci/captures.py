@@ -254,8 +254,9 @@ class Room:
             )
             with open(os.path.join(room, "out"), "rb") as file:
                 left = file.read()
-            others = sorted(os.listdir(room)) != ["capture", "out"]
-            return ran.returncode, left, ran.stdout + ran.stderr + ("parts are left" * others)
+            if sorted(os.listdir(room)) != ["capture", "out"]:
+                self.wrong.append(f"{words}: a part is left")
+            return ran.returncode, left, ran.stdout + ran.stderr
 
     def compare(self, name, found, status, session, said):
         """Compares a run with what it has to do and to say."""
@@ -286,6 +287,9 @@ def read_cases():
     for name, parts in [
         ("a last fragment is lost", lost),
         ("a first one", [*PARTS[:3], PARTS[3][1:], *PARTS[4:]]),
+        # They have bytes enough, and a gap.
+        ("one has another place", [*PARTS[:3], [PARTS[3][0], ip(
+            udp(BULLETIN[3])[128:264], 3, 128, 1), PARTS[3][2]], *PARTS[4:]]),
         # Its number comes again long after.
         ("number again", [*PARTS[:3], PARTS[3][1:], *PARTS[4:], *[[PLAIN[9]]] * 10_000,
                           [fragments(udp(BULLETIN[3]), 3)[0]]]),
