@@ -36,20 +36,21 @@ const WIDE_BYTES: usize = 512;
 /// Outputs that are made of one table.
 const MOST_ROWS: usize = 128;
 
-/// The table of sums of four sources each, at an address that 64 divides: the vector beside it asks
-/// for one. A local array of bytes alone may be at any address, and then a load of an entry crosses
-/// two lines of the cache.
+/// A value at an address that 16 divides: the number of 16 bytes beside it asks for one. A local
+/// array of bytes alone may be at any address, and then more loads cross a line of the cache.
 #[derive(Drop)]
-struct Fours {
-    sums: [u8; 16384],
-    _beside: u8x64,
+struct Aligned<T> {
+    value: T,
+    _beside: u128,
 }
 
-/// The same of five sources each.
-#[derive(Drop)]
-struct Fives {
-    sums: [u8; 26624],
-    _beside: u8x64,
+impl<T> Aligned<T> {
+    #[inline(always)]
+    fn new(value: T) -> Aligned<T>
+        ensures { result.value ≡ value }
+    {
+        Aligned { value, _beside: 0 }
+    }
 }
 
 /// Coefficients: a row for each output, and in each row one for each source.
@@ -292,18 +293,12 @@ pub fn add_products(
     };
     // Sums of five sources each where many outputs share a table of many sources.
     if takes_fours(&coefficients, width) {
-        let mut table = Fours {
-            sums: [0u8; 16384],
-            _beside: u8x64::splat(0),
-        };
+        let mut table = Aligned::new([0u8; 16384]);
         let tiling = Tiling::fours(16);
-        add_by_groups(outputs, &coefficients, &sources, &mut table.sums, tiling);
+        add_by_groups(outputs, &coefficients, &sources, &mut table.value, tiling);
     } else {
-        let mut table = Fives {
-            sums: [0u8; 26624],
-            _beside: u8x64::splat(0),
-        };
+        let mut table = Aligned::new([0u8; 26624]);
         let tiling = Tiling::fives(13);
-        add_by_groups(outputs, &coefficients, &sources, &mut table.sums, tiling);
+        add_by_groups(outputs, &coefficients, &sources, &mut table.value, tiling);
     }
 }
