@@ -163,7 +163,8 @@ def try_shipped(tree, every):
     expect_shipped("what is shipped runs without the toolchain")
     expect_shipped("it runs again")
     for level in LEVELS:
-        (tree.folder / "out" / f"alcrs-{level}").write_text("something else")
+        (tree.folder / "out" / level).mkdir(exist_ok=True)
+        (tree.folder / "out" / level / "alcrs").write_text("something else")
     expect_shipped("it is unpacked anew where it was changed")
     tree.clear()
     (tree.folder / "out").write_text("no folder")

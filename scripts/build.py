@@ -315,6 +315,7 @@ def build_by_rt(log, flags, program):
     ended = subprocess.run(words, cwd=CRATES / PROGRAM, stdin=subprocess.DEVNULL, stdout=log,
                            stderr=subprocess.STDOUT).returncode
     if not ended:
+        program.parent.mkdir(parents=True, exist_ok=True)
         shutil.copy(CRATES / PROGRAM / "out" / PROGRAM, program)
     return ended
 
