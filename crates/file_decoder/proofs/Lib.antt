@@ -1,4 +1,5 @@
 pub mod ReadAgain
+pub mod Rooms
 pub mod FileFaults
 pub mod FirstCarrier
 pub mod Indexed

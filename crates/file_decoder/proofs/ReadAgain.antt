@@ -120,9 +120,9 @@ lengths_more held size xs a len so_far j y some =
       | inr ne ↦ so_far j y (sym (with_other (arrived_at held xs) a.esi j (held a.symbol) ne) ∙ sym here ∙ some)
     ]
 
--- what isn't given for a reason isn't for one that follows
-pub unread_of : (A B : Type 0) (reliable : Bool) (e : Unread) → (B → A) → IsUnreadOf A reliable e → IsUnreadOf B reliable e
-unread_of A B reliable unread.Io f h = h
+-- what isn't given, where reading can't fail, isn't given of a file either
+pub unread_of : (A B : Type 0) (reliable : Bool) (e : Unread) → (B → A) → IsUnreadOf A true e → IsUnreadOf B reliable e
+unread_of A B reliable unread.Io f h = absurd (cc)
 unread_of A B reliable unread.Changed f h = λ b. h (f b)
 unread_of A B reliable unread.NoMemory f h = tt
 

@@ -4,7 +4,7 @@ ghost use Rattle.reception.specs.Reception.{with_fti};
 ghost use Rattle.file_decoder.specs.InFile.{file_at, AllStandIn};
 ghost use Rattle.block_recovery.specs.Recoveries.{IsKeptOf};
 
-use crate::rereading::{DatagramReader, Place, read_block_again};
+use crate::rereading::{BlockReader, Place};
 use block_code::BlockCodes;
 use block_recovery::{Recovery, Rows, Symbols, block_rows, blocks_of, symbols_below};
 use decoder::{Source, Unread, have};
@@ -24,7 +24,7 @@ pub(crate) struct Indexed {
 /// What symbols are read with, and what is kept of a solution.
 #[derive(Drop)]
 pub(crate) struct FileWorkspace<'a, F: ReadAt> {
-    pub(crate) reader: DatagramReader<'a, F>,
+    pub(crate) reader: BlockReader<'a, F>,
     pub(crate) kept: Option<Recovery>,
 }
 
@@ -66,7 +66,7 @@ impl<'a, F: ReadAt> Source for FileSource<'a, F> {
         let fti = &self.indexed.fti;
         fti.is_valid();
         Ok(FileWorkspace {
-            reader: DatagramReader::new(alloc, self.file, fti.n(0))?,
+            reader: BlockReader::new(alloc, self.file, fti.n(0))?,
             kept: None,
         })
     }
@@ -81,8 +81,9 @@ impl<'a, F: ReadAt> Source for FileSource<'a, F> {
         let fti = &self.indexed.fti;
         let scope = Scope::with_fti(self.indexed.identity, *fti);
         let came = self.indexed.symbols.of_block(b).unwrap_or(&[]);
-        let again = read_block_again(alloc, &mut workspace.reader, &scope, b, came)?;
-        let arrivals = symbols_below(alloc, &again, fti.n(b))?;
+        workspace.reader.read(came)?;
+        let symbols = workspace.reader.symbols(alloc, &scope, b, came)?;
+        let arrivals = symbols_below(alloc, &symbols, fti.n(b))?;
         Ok(block_rows(alloc, fti, codes, b, &arrivals, &mut workspace.kept)?)
     }
 }

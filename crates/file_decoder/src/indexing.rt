@@ -24,7 +24,7 @@ ghost use Rattle.file_decoder.specs.declared.rereading.Place.{Place as PlaceValu
 ghost use Rattle.partition.specs.Fti.{Fti as FtiValue, block_count, encoding_count};
 
 use crate::indexed_file::FileFault;
-use crate::rereading::{Place, read_alone};
+use crate::rereading::{Place, is_symbol};
 use alc::Packet;
 use block_recovery::{Arrival, DecodeFault, Symbols, fault_at};
 use decoder::Unread;
@@ -181,8 +181,7 @@ fn keep<F: ReadAt>(
         symbols.put(alloc, packet.sbn, packet.esi, place)?;
         return Ok(true);
     };
-    let symbol = read_alone(alloc, file, scope, packet.sbn, packet.esi, earlier)?;
-    Ok(symbol.as_slice() == packet.symbol)
+    is_symbol(alloc, file, scope, packet, earlier)
 }
 
 // The places of the identity's packets, where this is the FTI of the first carrier. The reader

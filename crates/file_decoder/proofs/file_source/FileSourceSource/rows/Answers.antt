@@ -1,6 +1,6 @@
 use Rattle.std.specs.Prelude.{is_some}
 use Rattle.std.specs.Option.{unwrap_or}
-use Rattle.std.specs.Global.{Vec}
+use Rattle.std.specs.Borrow.{Bor}
 use Rattle.std.proofs.Common.{◌≡◌, ◌∙◌, ◌<◌, ℕ, List, [], Option, length, refl, sym, ap}
 use Rattle.std.proofs.lemmas.Result.{err_from_is_err_and}
 use Rattle.reception.specs.declared.scope.Scope.{Scope}
@@ -17,20 +17,14 @@ use Rattle.file_decoder.proofs.FromFile.{again_length, again_enough, came_list, 
 use Rattle.file_decoder.proofs.ReadAgain.{unread_of}
 use Rattle.file_decoder.proofs.file_source.FileSourceSource.rows.Goals as goal
 
-pub read_block_again-requires : goal.read_block_again-requires
-read_block_again-requires g c = (c.args.self.now.indexed.now.fti, ap (λ (s : Scope). s.fti) c.with_fti-scope.ensures)
-
-pub returns-in_err-again-clause-fault : goal.returns-in_err-again-clause-fault
-returns-in_err-again-clause-fault g c =
+pub returns-in_err-symbols-clause-fault : goal.returns-in_err-symbols-clause-fault
+returns-in_err-symbols-clause-fault g c =
     let ix = c.args.self.now.indexed.now in
-    let content = g.F.ReadAt.content c.args.self.now.file.now in
-    let f = c.args.self.now.indexed.now.fti in
-    let b = c.args.b in
-    let at = file_at (g.F.ReadAt.content c.args.self.now.file.now) c.args.self.now.indexed.now.symbols in
-    let p = err_from_is_err_and c.from_residual.result c.from_residual.ensures.1 in
-    let list = came_list (list_of ix.symbols b) c.of_block.result _ c.unwrap_or-came.result c.unwrap_or-came.ensures refl c.of_block.ensures.empty c.of_block.ensures.list in
+    let p = err_from_is_err_and c.from_residual-in_err-symbols.result c.from_residual-in_err-symbols.ensures.1 in
+    let list = came_list (list_of ix.symbols c.args.b) c.of_block.result _ c.unwrap_or-came.result c.unwrap_or-came.ensures refl c.of_block.ensures.empty c.of_block.ensures.list in
     rw (p.1, p.2)
-    (unread_of _ _ _ _ (λ told. (told.0, told.1, rw (list, c.with_fti-scope.ensures) (told.2 b))) (rw c.requires.fits.0 at c.in_err-again.ensures.fault))
+    (unread_of _ _ _ _ (λ told. (told.0, told.1, rw (list, c.with_fti-scope.ensures) (told.2 c.args.b)))
+    (rw (c.in_ok-read.ensures.file ∙ c.requires.fits.0) at c.in_err-symbols.ensures.fault))
 
 pub block_rows-requires-clause-count : goal.block_rows-requires-clause-count
 block_rows-requires-clause-count g c =
@@ -39,10 +33,10 @@ block_rows-requires-clause-count g c =
     let f = c.args.self.now.indexed.now.fti in
     let b = c.args.b in
     let at = file_at (g.F.ReadAt.content c.args.self.now.file.now) c.args.self.now.indexed.now.symbols in
-    let again = arrived_at (λ (v : Vec ℕ). v.items) c.in_ok-again.again.items in
+    let again = arrived_at (λ (v : Bor (List ℕ)). v.now) c.in_ok-symbols.symbols.items in
     let a =
-    are_arrivals f b (λ (n : ℕ). arrived_at (λ (v : Vec ℕ). v.items) c.in_ok-again.again.items) c.n.result _ c.deref-2.result.now c.n.ensures.value c.in_ok-arrivals.ensures.len
-    (λ j lj. c.in_ok-arrivals.ensures.at j lj ∙ ap (λ (l : List (Arrival (Vec ℕ))). arrived_at (λ (v : Vec ℕ). v.items) l j) c.deref.ensures.value) c.deref-2.ensures.value in
+    are_arrivals f b (λ (n : ℕ). arrived_at (λ (v : Bor (List ℕ)). v.now) c.in_ok-symbols.symbols.items) c.n.result _ c.deref-2.result.now c.n.ensures.value c.in_ok-arrivals.ensures.len
+    (λ j lj. c.in_ok-arrivals.ensures.at j lj ∙ ap (λ (l : List (Arrival (Bor (List ℕ)))). arrived_at (λ (v : Bor (List ℕ)). v.now) l j) c.deref.ensures.value) c.deref-2.ensures.value in
     a.len
 
 pub block_rows-requires-clause-symbols : goal.block_rows-requires-clause-symbols
@@ -52,11 +46,11 @@ block_rows-requires-clause-symbols g c =
     let f = c.args.self.now.indexed.now.fti in
     let b = c.args.b in
     let at = file_at (g.F.ReadAt.content c.args.self.now.file.now) c.args.self.now.indexed.now.symbols in
-    let again = arrived_at (λ (v : Vec ℕ). v.items) c.in_ok-again.again.items in
+    let again = arrived_at (λ (v : Bor (List ℕ)). v.now) c.in_ok-symbols.symbols.items in
     let a =
-    are_arrivals f b (λ (n : ℕ). arrived_at (λ (v : Vec ℕ). v.items) c.in_ok-again.again.items) c.n.result _ c.deref-2.result.now c.n.ensures.value c.in_ok-arrivals.ensures.len
-    (λ j lj. c.in_ok-arrivals.ensures.at j lj ∙ ap (λ (l : List (Arrival (Vec ℕ))). arrived_at (λ (v : Vec ℕ). v.items) l j) c.deref.ensures.value) c.deref-2.ensures.value in
-    again_length f b again c.deref-2.result.now a.len a.same (c.in_ok-again.ensures.size f (ap (λ (s : Scope). s.fti) c.with_fti-scope.ensures))
+    are_arrivals f b (λ (n : ℕ). arrived_at (λ (v : Bor (List ℕ)). v.now) c.in_ok-symbols.symbols.items) c.n.result _ c.deref-2.result.now c.n.ensures.value c.in_ok-arrivals.ensures.len
+    (λ j lj. c.in_ok-arrivals.ensures.at j lj ∙ ap (λ (l : List (Arrival (Bor (List ℕ)))). arrived_at (λ (v : Bor (List ℕ)). v.now) l j) c.deref.ensures.value) c.deref-2.ensures.value in
+    again_length f b again c.deref-2.result.now a.len a.same (c.in_ok-symbols.ensures.size f (ap (λ (s : Scope). s.fti) c.with_fti-scope.ensures))
 
 pub block_rows-requires-clause-enough : goal.block_rows-requires-clause-enough
 block_rows-requires-clause-enough g c =
@@ -65,13 +59,13 @@ block_rows-requires-clause-enough g c =
     let f = c.args.self.now.indexed.now.fti in
     let b = c.args.b in
     let at = file_at (g.F.ReadAt.content c.args.self.now.file.now) c.args.self.now.indexed.now.symbols in
-    let again = arrived_at (λ (v : Vec ℕ). v.items) c.in_ok-again.again.items in
+    let again = arrived_at (λ (v : Bor (List ℕ)). v.now) c.in_ok-symbols.symbols.items in
     let a =
-    are_arrivals f b (λ (n : ℕ). arrived_at (λ (v : Vec ℕ). v.items) c.in_ok-again.again.items) c.n.result _ c.deref-2.result.now c.n.ensures.value c.in_ok-arrivals.ensures.len
-    (λ j lj. c.in_ok-arrivals.ensures.at j lj ∙ ap (λ (l : List (Arrival (Vec ℕ))). arrived_at (λ (v : Vec ℕ). v.items) l j) c.deref.ensures.value) c.deref-2.ensures.value in
+    are_arrivals f b (λ (n : ℕ). arrived_at (λ (v : Bor (List ℕ)). v.now) c.in_ok-symbols.symbols.items) c.n.result _ c.deref-2.result.now c.n.ensures.value c.in_ok-arrivals.ensures.len
+    (λ j lj. c.in_ok-arrivals.ensures.at j lj ∙ ap (λ (l : List (Arrival (Bor (List ℕ)))). arrived_at (λ (v : Bor (List ℕ)). v.now) l j) c.deref.ensures.value) c.deref-2.ensures.value in
     let held = held_in (unwrap_or content []) in
     again_enough f b again c.deref-2.result.now a.len a.same (at b)
-    (λ j. c.in_ok-again.ensures.some held j
+    (λ j. c.in_ok-symbols.ensures.some held j
     ∙ ap is_some (arrived_or held ix.symbols b c.of_block.result _ c.unwrap_or-came.result c.unwrap_or-came.ensures refl c.of_block.ensures.none c.of_block.ensures.some j))
     c.requires.enough
 
@@ -82,16 +76,16 @@ returns-clause-rows g c = λ told.
     let f = c.args.self.now.indexed.now.fti in
     let b = c.args.b in
     let at = file_at (g.F.ReadAt.content c.args.self.now.file.now) c.args.self.now.indexed.now.symbols in
-    let again = arrived_at (λ (v : Vec ℕ). v.items) c.in_ok-again.again.items in
+    let again = arrived_at (λ (v : Bor (List ℕ)). v.now) c.in_ok-symbols.symbols.items in
     let a =
-    are_arrivals f b (λ (n : ℕ). arrived_at (λ (v : Vec ℕ). v.items) c.in_ok-again.again.items) c.n.result _ c.deref-2.result.now c.n.ensures.value c.in_ok-arrivals.ensures.len
-    (λ j lj. c.in_ok-arrivals.ensures.at j lj ∙ ap (λ (l : List (Arrival (Vec ℕ))). arrived_at (λ (v : Vec ℕ). v.items) l j) c.deref.ensures.value) c.deref-2.ensures.value in
+    are_arrivals f b (λ (n : ℕ). arrived_at (λ (v : Bor (List ℕ)). v.now) c.in_ok-symbols.symbols.items) c.n.result _ c.deref-2.result.now c.n.ensures.value c.in_ok-arrivals.ensures.len
+    (λ j lj. c.in_ok-arrivals.ensures.at j lj ∙ ap (λ (l : List (Arrival (Bor (List ℕ)))). arrived_at (λ (v : Bor (List ℕ)). v.now) l j) c.deref.ensures.value) c.deref-2.ensures.value in
     let x = told.0 in
     let list = came_list (list_of ix.symbols b) c.of_block.result _ c.unwrap_or-came.result c.unwrap_or-came.ensures refl c.of_block.ensures.empty c.of_block.ensures.list in
     let placed : AreOfBlock told.0 c.with_fti-scope.result c.args.b c.unwrap_or-came.result.now =
     rw (list, c.with_fti-scope.ensures) (told.2 b) in
     let same : (j : ℕ) → j < length c.deref-2.result.now → bytes_of_esi c.deref-2.result.now j ≡ file_at (g.F.ReadAt.content c.args.self.now.file.now) c.args.self.now.indexed.now.symbols c.args.b j =
-    λ j lj. a.same j lj ∙ ap (λ (h : ℕ → Option (List ℕ)). h j) ((rw c.requires.fits.0 at c.in_ok-again.ensures.symbols) x told.1 placed)
+    λ j lj. a.same j lj ∙ ap (λ (h : ℕ → Option (List ℕ)). h j) ((rw (c.in_ok-read.ensures.file ∙ c.requires.fits.0) at c.in_ok-symbols.ensures.symbols) x told.1 placed)
     ∙ arrived_or (held_in x) ix.symbols b c.of_block.result _ c.unwrap_or-came.result c.unwrap_or-came.ensures refl c.of_block.ensures.none c.of_block.ensures.some j
     ∙ sym (ap (λ (y : List ℕ). came_at (held_in y) ix.symbols b j) (told_is content x told.1)) in
     if_some (λ (rows : Rows). AreRows c.args.self.now.indexed.now.fti c.args.b (bytes_of_esi c.deref-2.result.now) rows.bytes.items)
@@ -105,16 +99,16 @@ returns-clause-none g c = λ told none.
     let f = c.args.self.now.indexed.now.fti in
     let b = c.args.b in
     let at = file_at (g.F.ReadAt.content c.args.self.now.file.now) c.args.self.now.indexed.now.symbols in
-    let again = arrived_at (λ (v : Vec ℕ). v.items) c.in_ok-again.again.items in
+    let again = arrived_at (λ (v : Bor (List ℕ)). v.now) c.in_ok-symbols.symbols.items in
     let a =
-    are_arrivals f b (λ (n : ℕ). arrived_at (λ (v : Vec ℕ). v.items) c.in_ok-again.again.items) c.n.result _ c.deref-2.result.now c.n.ensures.value c.in_ok-arrivals.ensures.len
-    (λ j lj. c.in_ok-arrivals.ensures.at j lj ∙ ap (λ (l : List (Arrival (Vec ℕ))). arrived_at (λ (v : Vec ℕ). v.items) l j) c.deref.ensures.value) c.deref-2.ensures.value in
+    are_arrivals f b (λ (n : ℕ). arrived_at (λ (v : Bor (List ℕ)). v.now) c.in_ok-symbols.symbols.items) c.n.result _ c.deref-2.result.now c.n.ensures.value c.in_ok-arrivals.ensures.len
+    (λ j lj. c.in_ok-arrivals.ensures.at j lj ∙ ap (λ (l : List (Arrival (Bor (List ℕ)))). arrived_at (λ (v : Bor (List ℕ)). v.now) l j) c.deref.ensures.value) c.deref-2.ensures.value in
     let x = told.0 in
     let list = came_list (list_of ix.symbols b) c.of_block.result _ c.unwrap_or-came.result c.unwrap_or-came.ensures refl c.of_block.ensures.empty c.of_block.ensures.list in
     let placed : AreOfBlock told.0 c.with_fti-scope.result c.args.b c.unwrap_or-came.result.now =
     rw (list, c.with_fti-scope.ensures) (told.2 b) in
     let same : (j : ℕ) → j < length c.deref-2.result.now → bytes_of_esi c.deref-2.result.now j ≡ file_at (g.F.ReadAt.content c.args.self.now.file.now) c.args.self.now.indexed.now.symbols c.args.b j =
-    λ j lj. a.same j lj ∙ ap (λ (h : ℕ → Option (List ℕ)). h j) ((rw c.requires.fits.0 at c.in_ok-again.ensures.symbols) x told.1 placed)
+    λ j lj. a.same j lj ∙ ap (λ (h : ℕ → Option (List ℕ)). h j) ((rw (c.in_ok-read.ensures.file ∙ c.requires.fits.0) at c.in_ok-symbols.ensures.symbols) x told.1 placed)
     ∙ arrived_or (held_in x) ix.symbols b c.of_block.result _ c.unwrap_or-came.result c.unwrap_or-came.ensures refl c.of_block.ensures.none c.of_block.ensures.some j
     ∙ sym (ap (λ (y : List ℕ). came_at (held_in y) ix.symbols b j) (told_is content x told.1)) in
     unexplained_at f b at (c.requires.within told) c.deref-2.result.now a.len same (c.in_ok-block_rows.ensures.none none)
