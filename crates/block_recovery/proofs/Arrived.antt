@@ -3,12 +3,12 @@ use Rattle.std.specs.Prelude.{is_some, not, option_map, ◌==◌, ◌&&◌, IsNo
 use Rattle.std.specs.Option.{unwrap_or}
 use Rattle.std.specs.Borrow.{Bor}
 use Rattle.std.specs.BTreeMap.{BTreeMap, get}
-use Rattle.std.specs.List.{All}
+use Rattle.std.specs.List.{All, Contains}
 use Rattle.std.specs.Ordering.{nat_cmp, is_eq}
 use Rattle.std.proofs.Common.{◌≡◌, ◌≢◌, ℕ, suc, ◌+◌, ◌<◌, ◌≤◌, Bool, true, false, List, [], ◌∷◌, ◌++◌, Option, Some, None, length, get_or, set, take, refl, sym, ap, ◌∙◌, inl, inr, arith}
 use Rattle.std.proofs.lemmas.Bool.{cases_eq, eq-eqb, ne_eqb}
 use Rattle.std.proofs.lemmas.Grind.{get_or-set_at}
-use Rattle.std.proofs.lemmas.List.{take_more, get_or-set_other}
+use Rattle.std.proofs.lemmas.List.{take_more, get_or-set_other, get_or_default}
 use Rattle.block_recovery.specs.Blocks.{bytes_of_esi}
 use Rattle.block_recovery.specs.Arrivals.{with_esi, with_arrived, arrived_at, seen_at}
 use Rattle.shared_lists.specs.SharedLists.{list_at, share_of, index_of}
@@ -20,6 +20,9 @@ use Rattle.block_recovery.specs.declared.arrivals.Arrival.{Arrival}
 use Rattle.block_recovery.specs.declared.shared_arrivals.SharedArrivals.{SharedArrivals}
 use Rattle.block_recovery.proofs.Index.{number_eq}
 use Rattle.block_recovery.proofs.Kept.{with_here, with_other}
+
+abbrev arrival : {S : Type 0} → ℕ → S → Arrival S
+arrival j s = record { esi = j; symbol = s }
 
 module _ {S : Type 0} (held : S → List ℕ) where
   with_arrived_more : (at : ℕ → Option (List ℕ)) (xs : List (Arrival S)) (a : Arrival S) → with_arrived held at (xs ++ a ∷ []) ≡ with_esi (with_arrived held at xs) a.esi (held a.symbol)
@@ -38,22 +41,6 @@ module _ {S : Type 0} (held : S → List ℕ) where
       (ap (arrived_at held) (take_more xs i a li) ∙ ap (λ (x : Arrival S). arrived_at held (take i xs ++ x ∷ [])) (sym is) ∙ arrived_more (take i xs) a)
 
   module _ (xs : List (Arrival S)) (i : ℕ) (a : Arrival S) (li : i < length xs) (is : a ≡ get_or xs i a) where
-    -- the symbol that is looked at is found
-    pub found_here : (esi : ℕ) (found : Option (Bor (List ℕ))) (y : Bor (List ℕ)) → a.esi ≡ esi → found ≡ Some y → y.now ≡ held a.symbol
-        → option_map (λ s. s.now) found ≡ arrived_at held (take (i + 1) xs) esi
-    found_here esi found y same is_y bytes =
-        ap (option_map (λ (s : Bor (List ℕ)). s.now)) is_y ∙ ap Some bytes
-        ∙ sym (with_here (arrived_at held (take i xs)) a.esi esi (held a.symbol) same)
-        ∙ sym (arrived_front xs i a li is esi)
-
-    -- or one before it
-    pub found_before : (esi : ℕ) (found old : Option (Bor (List ℕ))) → a.esi ≢ esi → found ≡ old → option_map (λ s. s.now) old ≡ arrived_at held (take i xs) esi
-        → option_map (λ s. s.now) found ≡ arrived_at held (take (i + 1) xs) esi
-    found_before esi found old other is_old before =
-        ap (option_map (λ (s : Bor (List ℕ)). s.now)) is_old ∙ before
-        ∙ sym (with_other (arrived_at held (take i xs)) a.esi esi (held a.symbol) other)
-        ∙ sym (arrived_front xs i a li is esi)
-
     module _ (m : ℕ) (esi : m ≡ a.esi) (j : ℕ) where
       -- an ESI is marked as that of the symbol that is looked at
       pub marked : (seen : List Bool) → m < length seen → seen_at seen j ≡ is_some (arrived_at held (take i xs) j) → seen_at (set seen m true) j ≡ is_some (arrived_at held (take (i + 1) xs) j)
@@ -108,6 +95,22 @@ module _ {S : Type 0} (held : S → List ℕ) where
   pub none_past : (n : ℕ) (xs : List (Arrival S)) → All (λ a. a.esi < n) xs → (j : ℕ) → n ≤ j → arrived_at held xs j ≡ None
   none_past n xs all j lj = with_past (λ j. None) n xs all j lj refl
 
+-- a symbol that is looked at for an ESI
+module _ {S : Type 0} (xs : List (Arrival S)) (i : ℕ) (a : Arrival S) (li : i < length xs) (is : a ≡ get_or xs i a) (esi : ℕ) where
+  -- it is found
+  pub found_here : a.esi ≡ esi → (held : S → List ℕ) → option_map held (Some a.symbol) ≡ arrived_at held (take (i + 1) xs) esi
+  found_here e held = sym (arrived_front held xs i a li is esi ∙ with_here (arrived_at held (take i xs)) a.esi esi (held a.symbol) e)
+
+  pub listed_here : a.esi ≡ esi → Contains xs (record { esi = esi; symbol = a.symbol })
+  listed_here e =
+      let found : Arrival S = record { esi = esi; symbol = a.symbol } in
+      (i, li, sym (get_or_default xs i a found li) ∙ sym is ∙ ap (λ (j : ℕ). arrival {S = S} j a.symbol) e)
+
+  -- or one before it
+  pub found_before : (a.esi ≡ esi → ⊥) → (held : S → List ℕ) (found : Option S) → option_map held found ≡ arrived_at held (take i xs) esi
+      → option_map held found ≡ arrived_at held (take (i + 1) xs) esi
+  found_before ne held found before = before ∙ sym (arrived_front held xs i a li is esi ∙ with_other (arrived_at held (take i xs)) a.esi esi (held a.symbol) ne)
+
 pub some_length : {A : Type 0} (xs : List A) → not (length xs == 0) ≡ true → 0 < length xs
 some_length [] some = absurd (cc)
 some_length (x ∷ xs) some = omega arith
@@ -134,13 +137,13 @@ more_elsewhere {S} held old new block a more others b j other = elim (cases_eq b
   ]
 ]
 
--- what a symbol changes that is put among those of the blocks that share an allocation
+-- what changes where the symbols of a block do, among those of the blocks that share an allocation
 module _ {S : Type 0} (sharing : Sharing) (m new : BTreeMap ℕ (SharedArrivals S)) (block share index : ℕ) (at_share : share ≡ share_of sharing block) (at_index : index ≡ index_of sharing block)
-    (w : SharedArrivals S) (old : ℕ → List (Arrival S)) (a : Arrival S) (was : (i : ℕ) → listed (get nat_cmp m share) i ≡ old i) (is : get nat_cmp new share ≡ Some w)
-    (others : (q : ℕ) → is_eq (nat_cmp share q) ≡ false → get nat_cmp new q ≡ get nat_cmp m q) (pushed : list_at w.lists index ≡ old index ++ a ∷ [])
-    (kept : (i : ℕ) → index ≢ i → list_at w.lists i ≡ old i) where
-  pub list_more : listed (get nat_cmp new (share_of sharing block)) (index_of sharing block) ≡ listed (get nat_cmp m (share_of sharing block)) (index_of sharing block) ++ a ∷ []
-  list_more = rw (← at_share, ← at_index) (
+    (w : SharedArrivals S) (old : ℕ → List (Arrival S)) (was : (i : ℕ) → listed (get nat_cmp m share) i ≡ old i) (is : get nat_cmp new share ≡ Some w)
+    (others : (q : ℕ) → is_eq (nat_cmp share q) ≡ false → get nat_cmp new q ≡ get nat_cmp m q) (kept : (i : ℕ) → index ≢ i → list_at w.lists i ≡ old i) where
+  pub list_more : (a : Arrival S) → list_at w.lists index ≡ old index ++ a ∷ []
+      → listed (get nat_cmp new (share_of sharing block)) (index_of sharing block) ≡ listed (get nat_cmp m (share_of sharing block)) (index_of sharing block) ++ a ∷ []
+  list_more a pushed = rw (← at_share, ← at_index) (
       ap (λ (o : Option (SharedArrivals S)). listed o index) is ∙ pushed ∙ ap (λ (l : List (Arrival S)). l ++ a ∷ []) (sym (was index)))
 
   pub list_others : (b : ℕ) → (block == b) ≡ false
@@ -152,4 +155,11 @@ module _ {S : Type 0} (sharing : Sharing) (m new : BTreeMap ℕ (SharedArrivals 
         let away : index ≢ index_of sharing b = λ e. apart sharing block b differs (sym at_share ∙ same) (sym at_index ∙ e) in
         rw (← same) (
         ap (λ (o : Option (SharedArrivals S)). listed o (index_of sharing b)) is ∙ kept (index_of sharing b) away ∙ sym (was (index_of sharing b))))
+  ]
+
+  pub list_same : list_at w.lists index ≡ old index → (b : ℕ)
+      → listed (get nat_cmp new (share_of sharing b)) (index_of sharing b) ≡ listed (get nat_cmp m (share_of sharing b)) (index_of sharing b)
+  list_same same b = elim (cases_eq block b) [
+    | inr ne ↦ list_others b (ne_eqb block b ne)
+    | inl e ↦ rw (← e, ← at_share, ← at_index) (ap (λ (o : Option (SharedArrivals S)). listed o index) is ∙ same ∙ sym (was index))
   ]

@@ -1,35 +1,11 @@
 //! The encoding symbols that came of a source block, in the order in which they came.
 ghost use Rattle.std.specs.Prelude.{◌≡◌, ◌<◌, ◌++◌, ◌∷◌, ℕ, List, [], length, is_some};
-ghost use Rattle.std.specs.Prelude.{option_map, IfOk, OnOk, OnErr};
+ghost use Rattle.std.specs.Prelude.{option_map, IfOk, IfSome, OnOk, OnErr};
+ghost use Rattle.std.specs.List.{Contains};
 ghost use Rattle.block_recovery.specs.Blocks.{bytes_of_esi};
 ghost use Rattle.block_recovery.specs.Arrivals.{arrived_at, seen_at};
 
 use std::alloc::{AllocError, Global};
-
-/// What holds the bytes of a symbol: a slice of its datagram, or a copy of it.
-pub(crate) trait SymbolBytes: Drop {
-    ghost held: { Self → List ℕ };
-
-    /// The symbol's bytes.
-    fn bytes(&self) -> &[u8]
-        ensures { result.now ≡ held self.now };
-}
-
-impl SymbolBytes for &[u8] {
-    ghost held = { λ s. s.now };
-
-    fn bytes(&self) -> &[u8] {
-        self
-    }
-}
-
-impl SymbolBytes for Vec<u8> {
-    ghost held = { λ s. s.items };
-
-    fn bytes(&self) -> &[u8] {
-        self.as_slice()
-    }
-}
 
 /// A symbol that came, and its ESI.
 #[derive(Drop)]
@@ -54,14 +30,17 @@ pub fn push_arrival<S: Drop>(
     Ok(())
 }
 
-/// The bytes of the symbol at an ESI, if it came.
-pub(crate) fn symbol_at<S: SymbolBytes>(arrivals: &[Arrival<S>], esi: u8) -> Option<&[u8]>
-    ensures { option_map (λ s. s.now) result ≡ arrived_at S.held arrivals.now esi }
+/// The last symbol that has this ESI.
+pub(crate) fn last_of<S: Copy>(arrivals: &[Arrival<S>], esi: u8) -> Option<S>
+    ensures at { (held : S → List ℕ)
+        → option_map held result ≡ arrived_at held arrivals.now esi }
+    ensures listed { IfSome result (λ s.
+        Contains arrivals.now (record { esi = esi; symbol = s })) }
 {
     let mut found = None;
     for arrival in arrivals {
         if arrival.esi == esi {
-            found = Some(arrival.symbol.bytes());
+            found = Some(arrival.symbol);
         }
     }
     found
@@ -80,20 +59,20 @@ pub fn seen_of<S: Drop>(arrivals: &[Arrival<S>]) -> [bool; 256]
 }
 
 /// The symbols at the first `n` ESIs, those that came.
-pub fn symbols_below<'a, S: SymbolBytes>(
+pub fn symbols_below<'a>(
     alloc: Global,
-    arrivals: &'a [Arrival<S>],
+    arrivals: &[Arrival<&'a [u8]>],
     n: usize,
 ) -> Result<Vec<Option<&'a [u8]>>, AllocError>
     ensures len { IfOk result (λ v. length v.items ≡ n) }
     ensures at { IfOk result (λ v. (j : ℕ) → j < n
-        → bytes_of_esi v.items j ≡ arrived_at S.held arrivals.now j) }
+        → bytes_of_esi v.items j ≡ arrived_at (λ s. s.now) arrivals.now j) }
 {
     let mut symbols = vec![in alloc; None; n]?;
     for arrival in arrivals {
         let esi = usize::from(arrival.esi);
         if esi < n {
-            symbols[esi] = Some(arrival.symbol.bytes());
+            symbols[esi] = Some(arrival.symbol);
         }
     }
     Ok(symbols)

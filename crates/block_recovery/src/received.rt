@@ -56,11 +56,10 @@ fn keep<'a>(
         → IsIndex earlier (bytes_at symbols.old)
         → clashes earlier (symbol_of (packet_of packet.now)) ≡ not kept) }
 {
-    let Some(bytes) = symbols.get(packet.sbn, packet.esi) else {
-        symbols.put(alloc, packet.sbn, packet.esi, packet.symbol)?;
-        return Ok(true);
-    };
-    Ok(*bytes == *packet.symbol)
+    match symbols.put(alloc, packet.sbn, packet.esi, packet.symbol)? {
+        Some(earlier) => Ok(*earlier == *packet.symbol),
+        None => Ok(true),
+    }
 }
 
 // How many encoding symbols each block has at most, where the FTI is known.

@@ -26,14 +26,18 @@ pub(crate) fn symbols_at(alloc: Global, block: &Block<'_>, esis: &[u8]) -> Resul
         → byte_in rows m c
         ≡ byte_of (bytes_of_esi block.now.received.now (slice_index esis.now m)) c) }
 {
-    let mut rows = Rows::zeros(alloc, esis.len(), block.size)?;
+    let mut bytes = Vec::with_capacity(alloc, esis.len() * block.size)?;
     for m in 0..esis.len() {
         match block.received[usize::from(esis[m])] {
-            Some(symbol) => rows.put(m, symbol),
-            None => {}
+            Some(symbol) => bytes.extend_from_slice(symbol)?,
+            None => bytes.resize((m + 1) * block.size, 0)?,
         }
     }
-    Ok(rows)
+    Ok(Rows {
+        bytes,
+        size: block.size,
+        count: esis.len(),
+    })
 }
 
 // The coefficients of the encoding symbols at these ESIs.

@@ -1,10 +1,11 @@
 //! The encoding symbols that came, by block and ESI.
 ghost use Rattle.std.specs.Prelude.{◌≡◌, ◌==◌, ◌&&◌, ◌++◌, ◌∷◌, [], ℕ, List, Some, None, true};
-ghost use Rattle.std.specs.Prelude.{false, is_some, option_map, IsNone, IfSome, OnOk};
+ghost use Rattle.std.specs.Prelude.{false, is_some, IsNone, IfSome, IfOk, OnOk};
+ghost use Rattle.std.specs.List.{Contains};
 ghost use Rattle.block_recovery.specs.Arrivals.{arrived_at};
-ghost use Rattle.block_recovery.specs.Received.{bytes_at, came_at, list_of};
+ghost use Rattle.block_recovery.specs.Received.{came_at, list_of};
 
-use crate::arrivals::{Arrival, symbol_at};
+use crate::arrivals::Arrival;
 use crate::shared_arrivals::SharedArrivals;
 use shared_lists::Sharing;
 use std::alloc::{AllocError, Global};
@@ -46,23 +47,6 @@ impl<S: Drop> Symbols<S> {
         }
     }
 
-    /// The symbols of a block, where one with this ESI may be among them. `None` says that none
-    /// has this ESI.
-    pub fn among(&self, block: u32, esi: u8) -> Option<&[Arrival<S>]>
-        ensures none { IsNone result
-            → (held : S → List ℕ) → came_at held self.now block esi ≡ None }
-        ensures some { IfSome result (λ v. (held : S → List ℕ)
-            → arrived_at held v.now esi ≡ came_at held self.now block esi) }
-        ensures list { IfSome result (λ v. v.now ≡ list_of self.now block) }
-    {
-        match self.shares.get(&self.sharing.share(block)) {
-            Some(arrivals) if arrivals.may_have(esi) => {
-                Some(arrivals.get(self.sharing.index(block)))
-            }
-            _ => None,
-        }
-    }
-
     /// Whether something came of a block.
     pub(crate) fn has_some(&self, block: u32) -> bool
         ensures some { result ≡ true → (held : S → List ℕ)
@@ -75,42 +59,46 @@ impl<S: Drop> Symbols<S> {
             None => false,
         }
     }
+}
 
-    /// Puts a symbol behind those of its block.
-    pub fn put(&mut self, alloc: Global, block: u32, esi: u8, symbol: S) -> Result<(), AllocError>
-        ensures here { OnOk result ((held : S → List ℕ)
+impl<S: Copy + Drop> Symbols<S> {
+    /// Puts a symbol behind those of its block, if none of them has its ESI; else answers the one
+    /// that has it.
+    pub fn put(
+        &mut self,
+        alloc: Global,
+        block: u32,
+        esi: u8,
+        symbol: S,
+    ) -> Result<Option<S>, AllocError>
+        ensures free { IfOk result (λ o. IsNone o → (held : S → List ℕ)
+            → came_at held self.old block esi ≡ None) }
+        ensures here { IfOk result (λ o. IsNone o → (held : S → List ℕ)
             → came_at held self.new block esi ≡ Some (held symbol)) }
         ensures elsewhere { OnOk result ((held : S → List ℕ) (b j : ℕ)
             → (block == b && esi == j) ≡ false
             → came_at held self.new b j ≡ came_at held self.old b j) }
-        ensures more { OnOk result (list_of self.new block
+        ensures more { IfOk result (λ o. IsNone o → list_of self.new block
             ≡ list_of self.old block ++ record { esi = esi; symbol = symbol } ∷ []) }
         ensures others { OnOk result ((b : ℕ) → (block == b) ≡ false
             → list_of self.new b ≡ list_of self.old b) }
+        ensures earlier { IfOk result (λ o. IfSome o (λ s.
+            ((held : S → List ℕ) → came_at held self.old block esi ≡ Some (held s))
+            × Contains (list_of self.old block) (record { esi = esi; symbol = s }))) }
+        ensures stays { IfOk result (λ o. IfSome o (λ _. (b : ℕ)
+            → list_of self.new b ≡ list_of self.old b)) }
     {
         let arrival = Arrival { esi, symbol };
         let share = self.sharing.share(block);
         let index = self.sharing.index(block);
         match self.shares.get_mut(&share) {
-            Some(arrivals) => {
-                arrivals.push(index, arrival)?;
-                Ok(())
-            }
+            Some(arrivals) => arrivals.put(index, arrival),
             None => {
                 let mut arrivals = SharedArrivals::new(alloc);
-                arrivals.push(index, arrival)?;
+                arrivals.put(index, arrival)?;
                 self.shares.insert(share, arrivals)?;
-                Ok(())
+                Ok(None)
             }
         }
-    }
-}
-
-impl Symbols<&[u8]> {
-    /// The bytes of the symbol at a block and an ESI, if it came.
-    pub(crate) fn get(&self, block: u32, esi: u8) -> Option<&[u8]>
-        ensures { option_map (λ s. s.now) result ≡ bytes_at self.now block esi }
-    {
-        symbol_at(self.among(block, esi)?, esi)
     }
 }

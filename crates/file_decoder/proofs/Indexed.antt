@@ -111,37 +111,6 @@ pub listed_placed : (x : List ℕ) (scope : Scope) (s : Symbols Place) → AreSy
 listed_placed x scope s placed b j p listed =
     subst (λ (a : Arrival Place). IsSymbolIn x scope b a.esi a.symbol) listed.2 (placed b listed.0 (record { esi = j; symbol = p }) listed.1)
 
-abbrev arrival : ℕ → Place → Arrival Place
-arrival j p = record { esi = j; symbol = p }
-
--- a place that is looked at for an ESI
-module _ (xs came : List (Arrival Place)) (same : xs ≡ came) (i : ℕ) (d : Arrival Place) (li : i < length xs) (esi : ℕ) where
-  inside : i < length came
-  inside = subst (λ (l : List (Arrival Place)). i < length l) same li
-
-  here : get_or xs i d ≡ get_or came i (get_or xs i d)
-  here = ap (λ (l : List (Arrival Place)). get_or l i d) same ∙ get_or_default came i d (get_or xs i d) inside
-
-  one_more : (held : Place → List ℕ) → arrived_at held (take (i + 1) came) ≡ with_esi (arrived_at held (take i came)) (get_or xs i d).esi (held (get_or xs i d).symbol)
-  one_more held =
-      ap (arrived_at held) (take_more came i (get_or xs i d) inside) ∙ ap (λ (a : Arrival Place). arrived_at held (take i came ++ a ∷ [])) (sym here)
-      ∙ arrived_more held (take i came) (get_or xs i d)
-
-  pub found_here : (get_or xs i d).esi ≡ esi → (held : Place → List ℕ) → option_map held (Some (get_or xs i d).symbol) ≡ arrived_at held (take (i + 1) came) esi
-  found_here e held =
-      sym (ap (λ (g : ℕ → Option (List ℕ)). g esi) (one_more held) ∙ with_here (arrived_at held (take i came)) (get_or xs i d).esi esi (held (get_or xs i d).symbol) e)
-
-  pub listed_here : (get_or xs i d).esi ≡ esi → Contains came (record { esi = esi; symbol = (get_or xs i d).symbol })
-  listed_here e =
-      let a : Arrival Place = record { esi = esi; symbol = (get_or xs i d).symbol } in
-      let is : get_or xs i d ≡ record { esi = esi; symbol = (get_or xs i d).symbol } = ap (λ (j : ℕ). arrival j (get_or xs i d).symbol) e in
-      (i, inside, sym (ap (λ (l : List (Arrival Place)). get_or l i d) same ∙ get_or_default came i d a inside) ∙ is)
-
-  pub found_before : ((get_or xs i d).esi ≡ esi → ⊥) → (held : Place → List ℕ) (found : Option Place) → option_map held found ≡ arrived_at held (take i came) esi
-      → option_map held found ≡ arrived_at held (take (i + 1) came) esi
-  found_before ne held found before =
-      before ∙ sym (ap (λ (g : ℕ → Option (List ℕ)). g esi) (one_more held) ∙ with_other (arrived_at held (take i came)) (get_or xs i d).esi esi (held (get_or xs i d).symbol) ne)
-
 -- an FTI has the block and the symbol
 pub has_both : (f : Fti) (b j : ℕ) → has_symbol f b j ≡ true → (b < block_count f) × (j < encoding_count f b)
 has_both f b j h = let w = and_parts (nat_lt b (block_count f)) (nat_lt j (encoding_count f b)) h in (ltb-true b (block_count f) w.0, ltb-true j (encoding_count f b) w.1)

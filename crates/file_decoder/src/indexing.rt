@@ -115,32 +115,6 @@ pub(crate) fn find_fti<F: ReadAt>(
     first_fti(alloc, &mut cursor, identity)
 }
 
-// The last of a block's places that has this ESI.
-fn last_place(arrivals: &[Arrival<Place>], esi: u8) -> Option<Place>
-    ensures at { (held : PlaceValue → List ℕ)
-        → option_map held result ≡ arrived_at held arrivals.now esi }
-    ensures listed { IfSome result (λ p.
-        Contains arrivals.now (record { esi = esi; symbol = p })) }
-{
-    let mut found = None;
-    for arrival in arrivals {
-        if arrival.esi == esi {
-            found = Some(arrival.symbol);
-        }
-    }
-    found
-}
-
-// Where the packet at a block and an ESI stands, if one came.
-fn place_of(symbols: &Symbols<Place>, block: u32, esi: u8) -> Option<Place>
-    ensures at { (held : PlaceValue → List ℕ)
-        → option_map held result ≡ came_at held symbols.now block esi }
-    ensures listed { IfSome result (λ p.
-        Contains (list_of symbols.now block) (record { esi = esi; symbol = p })) }
-{
-    last_place(symbols.among(block, esi)?, esi)
-}
-
 // Keeps the packet's place, and answers whether it did: not where an earlier packet of its block
 // and ESI has other bytes.
 fn keep<F: ReadAt>(
@@ -177,11 +151,10 @@ fn keep<F: ReadAt>(
         → IfErr result (λ e. e ≡ Unread.Changed → ⊥) }
     ensures io { IfErr result (λ e. e ≡ Unread.Io → F.reliable file.now ≡ false) }
 {
-    let Some(earlier) = place_of(symbols, packet.sbn, packet.esi) else {
-        symbols.put(alloc, packet.sbn, packet.esi, place)?;
-        return Ok(true);
-    };
-    is_symbol(alloc, file, scope, packet, earlier)
+    match symbols.put(alloc, packet.sbn, packet.esi, place)? {
+        Some(earlier) => is_symbol(alloc, file, scope, packet, earlier),
+        None => Ok(true),
+    }
 }
 
 // The places of the identity's packets, where this is the FTI of the first carrier. The reader
