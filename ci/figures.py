@@ -148,9 +148,9 @@ def constants_of_files(batch, group):
         "crates/program_host/src/program.rt", r"^pub const BUFFER_SIZE: usize = ([\d_]+);"
     )
     runs = constant("crates/encoder/src/rounds_from.rt", r"^const LONG_RUN_BLOCKS: usize = (\d+);")
+    yield "docs/DECISIONS.md", r"One more lane, of (\d+) KiB", [2 ** line >> 10]
     for name in ("docs/ARCHITECTURE.md", "docs/DECISIONS.md"):
-        yield name, r"are read (\d+) KiB at once", [2 ** line >> 10]
-    yield "docs/DECISIONS.md", r"that reads (\d+) KiB ahead", [2 ** lane >> 10]
+        yield name, r"(\d+) KiB ahead", [2 ** lane >> 10]
     yield "docs/ARCHITECTURE.md", r"`rounds\.rt`\), where (\d+) MiB hold them", [batch]
     for words in ("many rounds as take", "two rounds take more than", "a pass over it for every"):
         yield "docs/DECISIONS.md", rf"{words} (\d+) MiB", [batch]

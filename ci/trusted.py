@@ -246,14 +246,26 @@ def public_clauses(path):
     return "\n".join(text for _, _, text in contracts(path))
 
 
+@lru_cache(maxsize=None)
+def facts():
+    """The ghosts of public traits whose value is a proof: their type says what is proved."""
+    found = set()
+    for path in CRATES.glob("*/src/*.rt"):
+        for trait in re.findall(r"^pub trait .*?^}", path.read_text(), re.M | re.S):
+            ghosts = re.findall(r"^    ghost (\w+): \{(.*?)\};", trait, re.M | re.S)
+            found |= {name for name, kind in ghosts if re.search(r"≡|^ *(Is|Are)[A-Z]", kind)}
+    return found
+
+
 def contracts(path):
     """The public clauses of a source file: (function, label, text). A model's facts go by the
-    function `Model`.
+    function `Model`, and what an impl of a trait says of its ghosts by `impl`.
     """
     private = private_types(path)
     function, label, lines = None, "", []
-    in_trait = in_model = in_impl = in_private = False
-    for line in path.read_text().splitlines():
+    in_trait = in_model = in_impl = in_private = in_ghost = False
+    source = re.sub(r"^(impl[^{;]*)\n +", r"\1 ", path.read_text(), flags=re.M)
+    for line in source.splitlines():
         text = line.strip()
         if text and not line.startswith((" ", "}", ")")):
             of = re.match(r"impl.* for (\w+)|impl(?:<[^>]*>)? (\w+)", text)
@@ -262,7 +274,7 @@ def contracts(path):
             in_model = bool(re.match(r"impl(<.*>)? Model for ", text)) and not in_private
             of_trait = bool(re.match(r"impl(<.*>)? [A-Z][\w<>, ]* for ", text))
             in_impl = of_trait and not in_model and not in_private
-            function = None
+            function, in_ghost = None, False
         named = re.match(r"(pub(?:\(crate\))? )?(?:extern \"C\" )?(?:const )?fn (\w+)", text)
         if named:
             is_public = (named.group(1) == "pub " and not in_private) or in_trait or in_impl
@@ -278,8 +290,10 @@ def contracts(path):
             if clause:
                 label = (clause.group(2) or "").strip()
             lines.append((function, label, text))
-        elif in_model and text.startswith("ghost ") and not text.startswith("ghost use"):
-            lines.append(("Model", "", text))
+        elif in_ghost or (in_model or in_impl) and re.match(r"ghost (?!use )", text):
+            in_ghost = not text.endswith(("};", "}"))
+            if in_model or re.sub(r"ghost (\w+).*", r"\1", text) not in facts():
+                lines.append(("Model" if in_model else "impl", "", text))
         elif in_trait and text.startswith("ghost "):
             lines.append(("trait", "", text))
     return lines

@@ -6,7 +6,7 @@ use Rattle.session.specs.declared.frame.FrameFault.{FrameFault}
 use Rattle.session.specs.declared.frame.FrameFault.TheVariants as frame_fault
 use Rattle.file_decoder.specs.FileFaults.{IsFrameFault}
 use Rattle.file_decoder.specs.IndexedIn.{IsFileFault}
-use Rattle.file_decoder.specs.ReadAgain.{fault_of}
+use Rattle.file_decoder.specs.FileFaults.{fault_of}
 use Rattle.decoder.specs.declared.source.Unread.{Unread}
 use Rattle.decoder.specs.declared.source.Unread.TheVariants as unread
 

@@ -13,7 +13,7 @@ use Rattle.reception.specs.declared.scope.Identity.{Identity}
 use Rattle.reception.specs.Answer.{IsAnswer}
 use Rattle.decoder.specs.Answers.{answer_value}
 use Rattle.file_decoder.specs.IndexedIn.{IsFileFault, IsIndexedIn}
-use Rattle.file_decoder.specs.ReadAgain.{fault_of}
+use Rattle.file_decoder.specs.FileFaults.{fault_of}
 use Rattle.session.specs.Extents.{AreFrames}
 use Rattle.block_recovery.specs.Refusals.{IsRefusal}
 use Rattle.decoder.specs.Sources.{IsUnreadOf}

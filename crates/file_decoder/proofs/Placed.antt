@@ -16,6 +16,7 @@ use Rattle.reception.proofs.Within.{within}
 use Rattle.decoder.specs.Answers.{answer_value}
 use Rattle.decoder.specs.Answered.{Answers, NoneIsShort, Stand}
 use Rattle.file_decoder.specs.InFile.{held_in, file_at, AllStandIn}
+use Rattle.file_decoder.specs.IndexedIn.{AreFull}
 use Rattle.file_decoder.specs.PlacesOf.{AreEnoughPlaces, AreIndexedOf, ArePlacedIn, ArePlacedOf}
 use Rattle.block_recovery.specs.Received.{came_at}
 use Rattle.block_recovery.specs.Decoded.{AreInRange}
@@ -54,9 +55,10 @@ module _ (content : Option (List ℕ)) (s : FileSymbols) where
   pub placed_of : ArePlacedIn content s → (x : List ℕ) → content ≡ Some x → (who : Identity) × (ds : List (List ℕ)) × AreIndexedOf who ds x s.indexed
   placed_of placed x told = let w = rw told at placed.1 in (s.indexed.identity, w.0, w.1.indexed)
 
-  pub placed_framed : ArePlacedIn content s → IfSome content (λ x. (datagrams : List (List ℕ)) × IsFramed datagrams x × ArePlacedOf s.indexed.identity datagrams x s)
-  placed_framed placed = told_if content (λ (x : List ℕ). (datagrams : List (List ℕ)) × IsFramed datagrams x × ArePlacedOf s.indexed.identity datagrams x s) (λ x told.
-      let w = rw told at placed.1 in (w.0, w.1.framed, w.1))
+  pub placed_framed : ArePlacedIn content s → IfSome content (λ x. (datagrams : List (List ℕ)) × IsFramed datagrams x × ArePlacedOf s.indexed.identity datagrams x s
+      × AreFull s.indexed.identity datagrams s.indexed.fti)
+  placed_framed placed = told_if content (λ (x : List ℕ). (datagrams : List (List ℕ)) × IsFramed datagrams x × ArePlacedOf s.indexed.identity datagrams x s × AreFull s.indexed.identity datagrams s.indexed.fti) (λ x told.
+      let w = rw told at placed.1 in (w.0, w.1.framed, w.1, (readings_of w.0, w.1.indexed.read, w.1.indexed.received.clean, w.1.full)))
 
 module _ (content : Option (List ℕ)) (s : FileSymbols) (ds : List (List ℕ)) (x : List ℕ) (told : content ≡ Some x) (are : ArePlacedOf s.indexed.identity ds x s) where
   pub placed_answer : (answer : value.Answer) → Answers s.indexed.fti (file_at content s.indexed.symbols) answer → IsAnswer s.indexed.identity ds answer

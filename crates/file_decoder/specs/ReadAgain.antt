@@ -1,13 +1,8 @@
--- Datagrams that are read again, and what isn't there again.
+-- A block's datagrams that were read into a room.
 use Rattle.std.specs.Prelude.{◌≡◌, ◌≤◌, ◌<◌, ◌+◌, ℕ, List, Option, length, take, drop, slice_index}
 use Rattle.std.specs.Prelude.{slice_index_or}
 use Rattle.block_recovery.specs.declared.arrivals.Arrival.{Arrival}
-use Rattle.decoder.specs.declared.source.Unread.{Unread}
-use Rattle.decoder.specs.declared.source.Unread.TheVariants as unread
-use Rattle.file_decoder.specs.declared.indexed_file.FileFault.{FileFault}
-use Rattle.file_decoder.specs.declared.indexed_file.FileFault.TheVariants as file_fault
 use Rattle.file_decoder.specs.declared.rereading.Place.{Place}
-use Rattle.session.specs.declared.frame.FrameFault.TheVariants as frame_fault
 use Rattle.streams.specs.Offsets.{StandsAt}
 
 -- all of a datagram is among so many bytes of the file, from an offset on, that stand in the room
@@ -30,9 +25,3 @@ pub record AreRead (content : Option (List ℕ)) (came : List (Arrival Place)) (
   pub count : length starts ≡ length came
   pub each : (i : ℕ) (d : Arrival Place) → i < length came
       → IsRead content (slice_index_or came i d).symbol room (slice_index starts i)
-
--- what isn't there again, as a fault of the file
-abbrev pub fault_of : Unread → FileFault
-fault_of unread.Io = file_fault.Frame frame_fault.Io
-fault_of unread.Changed = file_fault.Changed
-fault_of unread.NoMemory = file_fault.NoMemory

@@ -61,7 +61,7 @@ impl From<FrameFault> for FileFault {
 
 impl From<Unread> for FileFault {
     ghost use Rattle.std.specs.Prelude.{◌≡◌};
-    ghost use Rattle.file_decoder.specs.ReadAgain.{fault_of};
+    ghost use Rattle.file_decoder.specs.FileFaults.{fault_of};
 
     ghost from_gives = { λ unread fault. fault ≡ fault_of unread };
 

@@ -17,7 +17,7 @@ use Rattle.std.proofs.lemmas.List.{length-replicate}
 use Rattle.file_decoder.specs.PlacesOf.{ArePlacedOf}
 use Rattle.file_decoder.specs.IndexedIn.{IsFileFault, IsIndexedIn}
 use Rattle.reception.specs.Readings.{readings_of}
-use Rattle.file_decoder.specs.ReadAgain.{fault_of}
+use Rattle.file_decoder.specs.FileFaults.{fault_of}
 use Rattle.file_decoder.specs.declared.indexed_file.FileSymbols.{FileSymbols}
 use Rattle.commands.proofs.Stopping.{kept_whole}
 use Rattle.decoder.specs.declared.answer.Answer.{Answer}
