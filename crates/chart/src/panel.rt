@@ -1,5 +1,5 @@
 //! Where a panel stands, its bars and its horizontal lines.
-ghost use Rattle.std.specs.Prelude.{◌≡◌, ◌≤◌, ◌+◌, ◌-◌, ◌*◌, ◌++◌, SomeIff, codes};
+ghost use Rattle.std.specs.Prelude.{◌≡◌, ◌<◌, ◌≤◌, ◌+◌, ◌-◌, ◌*◌, ◌++◌, SomeIff, codes};
 ghost use Rattle.chart.specs.Scaled.{scaled};
 ghost use Rattle.chart.specs.Texts.{Puts, bar_text, path_tag, line_text, lines_text};
 ghost use Rattle.chart.specs.Texts.{value_text, values_text};
@@ -23,9 +23,11 @@ pub struct Axis {
 }
 
 impl Axis {
-    /// An axis that goes up to a value, with steps of 1, 2 or 5 times a power of ten.
+    /// An axis that goes up to a value, with steps of 1, 2 or 5 times a power of ten. It ends less
+    /// than a step above the value.
     pub fn up_to(greatest: usize) -> Axis
-        ensures { greatest ≤ result.top }
+        ensures reaches { greatest ≤ result.top }
+        ensures near { 0 < greatest → result.top < greatest + result.unit }
     {
         for unit in UNITS {
             for lines in 1..=5usize {
