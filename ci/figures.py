@@ -84,10 +84,7 @@ def constants():
     most = {name: int(it) for name, it in re.findall(
         r'Number \(codes "([\w-]+)"\) [01] (\d+)', text_of("crates/request/specs/Grammar.antt")
     )}
-    yield "README.md", r"of the object in it, are 0 to (\d+)", [most["tsi"]]
-    yield "README.md", r"Both are 1 to (\d+), and `--max`", [most["block"]]
-    yield "README.md", r"`--fti-every` is 1 to (\d+);", [most["fti-every"]]
-    yield "README.md", r"of an encoding symbol in bytes, 1 to ([\d,]+)", [symbol]
+    yield "README.md", r"of the object are at most (\d+)\.", [most["tsi"]]
     yield "docs/FORMATS.md", r"`--symbol` is E in bytes, 1 to ([\d,]+)", [symbol]
     yield "docs/FORMATS.md", r"its length in two bytes, at most ([\d,]+)", [
         constant("crates/session/src/frame.rt", r"^pub const MOST_BYTES: usize = (\d+);")
@@ -106,7 +103,6 @@ def constants():
     ]
     most = r"^const MOST_GROUP_BYTES: usize = 1 << (\d+);"
     group = 2 ** constant("crates/encoder/src/rounds_from.rt", most) >> 20
-    yield "README.md", r"up to (\d+) MiB of encoding symbols", [group]
     yield "docs/OPERATING.md", r"within 1\.25 and (\d+) MiB", [group]
     shift = r"^const MOST_BYTES: usize = 1 << (\d+);"
     batch = 2 ** constant("crates/encoder/src/rounds.rt", shift) >> 20
@@ -159,16 +155,15 @@ def constants_of_files(batch, group):
     yield "docs/DECISIONS.md", r"1\.25 MiB, or (\d+) blocks", [runs]
     yield "docs/DECISIONS.md", r"The program takes (\d+) MiB once", [2 ** kept >> 20]
     yield "docs/DECISIONS.md", r"have a buffer of (\d+) KiB", [buffer >> 10]
+    memory = constant("scripts/build.py", r"^MEMORY = (\d+) << 30$")
+    yield "CONTRIBUTING.md", r"up to (\d+) GiB of memory", [memory]
     room = constant("ci/claims.py", r"^ROOM = (\d+) << 20$")
     yield "docs/ASSURANCE.md", r"as its inputs and (\d+) MiB", [room]
-    memory = constant("scripts/build.py", r"^MEMORY = (\d+) << 30$")
-    yield "README.md", r"up to (\d+) GiB of memory", [memory]
     head = dict(re.findall(r"^header_size (None|\(Some f\)) = (\d+)$",
                            text_of("crates/alc/specs/Written.antt"), re.M))
     bare, carrier = int(head["None"]), int(head["(Some f)"])
     yield "docs/THEOREMS.md", r"a frame of (\d+) \+ E", [carrier + 2]
     yield "docs/THEOREMS.md", r"and of (\d+) \+ E for each other", [bare + 2]
-    yield "README.md", r"has the FTI, which is (\d+) of", [carrier - bare]
 
 
 def definitions():
@@ -238,7 +233,7 @@ def counted_in_crates():
     yield "docs/DECISIONS.md", r"An argument is one of (\w+) kinds", [kinds]
     told = text_of("crates/commands/specs/Summary.antt")
     summary = told.partition("summary_text report weakest =")
-    yield "README.md", r"it prints (\w+) lines at a yes", [
+    yield "docs/OPERATING.md", r"prints (\w+) lines in all", [
         len(re.findall(r"^    (?:\+\+ )?line_of", summary[2].partition("\n\n")[0], re.M))
     ]
     sources = sorted(ROOT.glob("crates/alcrs_c/src/*.rt"))
@@ -267,7 +262,7 @@ def measured():
     sent = speeds["encode"] + speeds["certify"] + speeds["drop"]
     for name in ("README.md", "docs/OPERATING.md"):
         yield name, r"process (\d+) to (\d+) MB of object a second", tens(received)
-        yield name, r"`drop` (\d+) to (\d+), with symbols", tens(sent)
+    yield "docs/OPERATING.md", r"`drop` (\d+) to (\d+), with symbols", tens(sent)
 
 
 def blocks_of(symbols, block, most):
@@ -331,23 +326,25 @@ def options_in(text):
 
 
 def wrong_commands():
-    """The commands that README or docs/FORMATS.md lacks or has with other options, or that there
-    aren't.
+    """The commands that docs/FORMATS.md lacks or has with other options, or that there aren't, and
+    those that README lacks.
     """
     there = {
         it.stem: options_in(" ".join(re.findall(r"^ +(?:-\w, )?(--\S+)", text_of(it), re.M)))
         for it in ROOT.glob("samples/help/*.txt") if it.stem not in ("alcrs", "version")
     }
-    for name, pattern in [
-        ("README.md", r"^- `alcrs (\w+) ([^`]*)`"),
-        ("docs/FORMATS.md", r"^### `alcrs (\w+) ([^`]*)`"),
-    ]:
-        told = {it: options_in(rest) for it, rest in re.findall(pattern, text_of(name), re.M)}
-        for it in sorted(there.keys() ^ told.keys()):
-            yield f"{name}: alcrs {it}: {'not listed' if it in there else 'no command'}"
-        for it in sorted(there.keys() & told.keys()):
-            if there[it] != told[it]:
-                yield f"{name}: alcrs {it}: {' '.join(sorted(there[it] ^ told[it]))}"
+    listed = set(re.findall(r"`(\w+)`", " ".join(re.findall(r"^\| (`\w+`(?:, `\w+`)*) \|",
+                                                           text_of("README.md"), re.M))))
+    for it in sorted(there.keys() ^ listed):
+        yield f"README.md: alcrs {it}: {'not listed' if it in there else 'no command'}"
+    name = "docs/FORMATS.md"
+    told = {it: options_in(rest) for it, rest in
+            re.findall(r"^### `alcrs (\w+) ([^`]*)`", text_of(name), re.M)}
+    for it in sorted(there.keys() ^ told.keys()):
+        yield f"{name}: alcrs {it}: {'not listed' if it in there else 'no command'}"
+    for it in sorted(there.keys() & told.keys()):
+        if there[it] != told[it]:
+            yield f"{name}: alcrs {it}: {' '.join(sorted(there[it] ^ told[it]))}"
 
 
 def wrong_calls():
