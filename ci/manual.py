@@ -512,7 +512,10 @@ def zsh_text(text):
 
 def zsh_option(option):
     if len(option.names) > 1:
-        return "'(- *)'{" + ",".join(option.names) + "}" + quoted(f"[{zsh_text(option.text)}]")
+        # Nothing else stands beside help and version.
+        ends = {"--help", "--version"} & set(option.names)
+        others = "- *" if ends else " ".join(option.names)
+        return f"'({others})'{{{','.join(option.names)}}}" + quoted(f"[{zsh_text(option.text)}]")
     if not option.value:
         return quoted(f"{option.long_name()}[{zsh_text(option.text)}]")
     action = f"({' '.join(option.words)})" if option.words else "_files" if option.is_file else " "
