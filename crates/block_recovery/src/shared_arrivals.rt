@@ -70,11 +70,7 @@ impl<S: Copy + Drop> SharedArrivals<S> {
 
     /// Puts a symbol behind the others of the block at an index, if none of them has its ESI; else
     /// answers the one that has it.
-    pub(crate) fn put(
-        &mut self,
-        index: usize,
-        arrival: Arrival<S>,
-    ) -> Result<Option<S>, AllocError>
+    pub(crate) fn put(&mut self, index: usize, arrival: Arrival<S>) -> Result<Option<S>, AllocError>
         ensures free { IfOk result (λ o. IsNone o → (held : S → List ℕ)
             → arrived_at held (list_at self.old.lists index) arrival.esi ≡ None) }
         ensures pushed { IfOk result (λ o. IsNone o → list_at self.new.lists index

@@ -161,12 +161,7 @@ impl<'a, F: ReadAt> BlockReader<'a, F> {
 
     // Where a datagram begins in the room. If it isn't of the last run, it is read, and with it
     // those of the others that follow it.
-    fn ready(
-        &mut self,
-        esi: u8,
-        place: Place,
-        others: &[Arrival<Place>],
-    ) -> Result<usize, Unread>
+    fn ready(&mut self, esi: u8, place: Place, others: &[Arrival<Place>]) -> Result<usize, Unread>
         ensures start { IfOk result
             (IsAmong self.new.run.from self.new.run.offset self.new.run.len place) }
         ensures more { OnOk result (self.old.run.from + self.old.run.len

@@ -18,7 +18,7 @@ loop-m-preserved c =
     elim c.match-block-from.branch [
       | in-Some+in_ok-extend_from_slice-in-Some w ↦
           (let row = w.in-Some.symbol.now in
-          let came : bytes_of_esi c.args.block.now.received.now (slice_index c.args.esis.now m) ≡ Some row = 
+          let came : bytes_of_esi c.args.block.now.received.now (slice_index c.args.esis.now m) ≡ Some row =
           ap (λ (n : ℕ). bytes_of_esi c.args.block.now.received.now n) (sym c.from.ensures) ∙ ap (option_map (λ (s : Bor (List ℕ)). s.now)) w.in-Some.is in
           let long : length row ≡ size = c.args.block.now.symbols (slice_index c.args.esis.now m) row came in
           let here : (p : ℕ) → p < size → slice_index row p ≡ given m p = λ p lp. ap (λ (o : Option (List ℕ)). byte_of o p) (sym came) in
@@ -27,7 +27,7 @@ loop-m-preserved c =
             done = row_more old row m size given count long here c.loop-m.invariant.done;
           }))
       | in-None+in_ok-resize-in-None w ↦
-          (let none : bytes_of_esi c.args.block.now.received.now (slice_index c.args.esis.now m) ≡ None = 
+          (let none : bytes_of_esi c.args.block.now.received.now (slice_index c.args.esis.now m) ≡ None =
           ap (λ (n : ℕ). bytes_of_esi c.args.block.now.received.now n) (sym c.from.ensures) ∙ ap (option_map (λ (s : Bor (List ℕ)). s.now)) w.in-None.is in
           let row : List ℕ = replicate size 0 in
           let here : (p : ℕ) → p < size → slice_index row p ≡ given m p = λ p lp. get_or-replicate size p 0 0 lp ∙ ap (λ (o : Option (List ℕ)). byte_of o p) (sym none) in

@@ -30,10 +30,11 @@ loop-i-preserved g c =
             (let w = c.loop-i.invariant.each k d lt in
             let e : get_or c.push.new.self.items k 0 ≡ get_or old.starts.items k 0 =
             ap (λ (xs : List ℕ). get_or xs k 0) pushed ∙ get_or_append_left old.starts.items (start ∷ []) 0 k (omega (arith, lt, c.loop-i.invariant.count)) in
-            rw e
-            (omega (arith, w.0, c.in_ok-start.ensures.more),
-            subst (StandsAt content (slice_index_or came k d).symbol.offset)
-            (sym (stays_in end (slice_index_or came k d).symbol.length (get_or old.starts.items k 0) old.room.items new.room.items w.0 c.in_ok-start.ensures.before)) w.1))
+            rw e (
+              omega (arith, w.0, c.in_ok-start.ensures.more),
+              subst (StandsAt content (slice_index_or came k d).symbol.offset)
+                  (sym (stays_in end (slice_index_or came k d).symbol.length (get_or old.starts.items k 0) old.room.items new.room.items w.0 c.in_ok-start.ensures.before)) w.1,
+            ))
         | inr past ↦
             (let is : i ≡ k = omega (arith, l, past) in
             let at : length old.starts.items + 0 ≡ k = omega (arith, is, c.loop-i.invariant.count) in
@@ -41,9 +42,10 @@ loop-i-preserved g c =
             ap (λ (xs : List ℕ). get_or xs k 0) pushed ∙ ap (λ (n : ℕ). get_or (old.starts.items ++ start ∷ []) n 0) (sym at) ∙ get_or-append-add old.starts.items (start ∷ []) 0 0 in
             let place : slice_index_or came k d ≡ get_or came i none =
             ap (λ (n : ℕ). slice_index_or came n d) (sym is) ∙ get_or_default came i d none c.loop-i-test.true in
-            rw (e, place)
-            (omega (arith, among.begins, among.ends),
-            part_of_run content new.room.items new.run.from new.run.offset new.run.len start (get_or came i none).symbol new.within
-            (subst (λ f. StandsAt (g.F.ReadAt.content f) new.run.offset (take new.run.len (drop new.run.from new.room.items))) file new.stands) among))
+            rw (e, place) (
+              omega (arith, among.begins, among.ends),
+              part_of_run content new.room.items new.run.from new.run.offset new.run.len start (get_or came i none).symbol new.within
+                  (subst (λ f. StandsAt (g.F.ReadAt.content f) new.run.offset (take new.run.len (drop new.run.from new.room.items))) file new.stands) among,
+            ))
       ];
     }
