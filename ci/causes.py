@@ -135,7 +135,7 @@ KINDS = {
     "air.pcap.zst": "is compressed by zstd, and no session: zstd -d",
     "air.rsc": "is a certificate, and no session",
     "air.svg": "is a picture (SVG), and no session",
-    "air.txt": "begins as text, and is no session",
+    "air.txt": "is text, and no session",
 }
 
 CHECK = ["note.txt", "note.rsc", *OF_NOTE]
@@ -163,7 +163,7 @@ CASES = [
     (["encode", "/proc/self/mem", "out", *OF_NOTE, *NUMBERS], 1, "fault file /proc/self/mem",
      ["/proc/self/mem: Input/output error"]),
     (["convert", "note.txt", "out", *OF_NOTE], 1, "fault Z1",
-     ["note.txt begins as text", "the order is IN OUT"]),
+     ["note.txt is text", "the order is IN OUT"]),
     (["encode", "empty.txt", "out", *OF_NOTE, *NUMBERS], 1, "fault F1", ["empty.txt is empty"]),
     (
         ["encode", "note.txt", "out", *OF_NOTE, "--symbol", "8", "--block", "8", "--max", "4"],
@@ -185,7 +185,7 @@ CASES = [
     (["decode", "captured.pcapng", "out", *OF_NOTE], 1, "fault S",
      ["captured.pcapng is a capture (pcapng)"]),
     (["show", "note.rsc"], 1, "fault S", ["note.rsc is a certificate"]),
-    (["show", "note.txt"], 1, "fault S", ["note.txt begins as text"]),
+    (["show", "note.txt"], 1, "fault S", ["note.txt is text"]),
     (["show", "bad\nname.session"], 1, "fault S2", ["bad?name.session is cut off"]),
     (["drop", "note.session", "out", "9"], 1, "fault S6",
      ["note.session has 6 datagrams", "place 9"]),
@@ -198,7 +198,7 @@ CASES = [
     (["drop", "-", "out", "--places", "-"], 1, "fault open -",
      ["standard input: it can be read once"], "note.session"),
     (["check", "note.session", "note.txt", "note.txt", *OF_NOTE], 1, "fault Z1",
-     ["note.txt begins as text", "SESSION OBJECT CERT"]),
+     ["note.txt is text", "SESSION OBJECT CERT"]),
     (["check", "note.session", "note.txt", "short.rsc", *OF_NOTE], 1, "fault Z3",
      ["short.rsc is shorter or longer"]),
     (["convert", "note.rsc", "out", *OF_BULLETIN], 1, "fault Z6",
@@ -231,7 +231,7 @@ CASES = [
     (["check", "note.session", *CHECK, "--picture", "no/out.svg"], 1, "fault open",
      ["no/out.svg: No such file"]),
     (["decode", "stale.session", "out", *OF_NOTE], 1, "fault R3",
-     ["datagram 0 tells a length of 28", "datagram 1 tells 29"]),
+     ["datagram 0 tells a length of 28", "datagram 1 tells a length of 29"]),
     (["decode", "clash.session", "out", *OF_NOTE], 1, "fault R5",
      ["clash.session", "datagram 2", "damaged"]),
     (["decode", "damaged.session", "out", *OF_NOTE], 1, "fault R6", ["damaged.session", "block 0"]),
@@ -371,8 +371,6 @@ OF_SYSTEM = [
     (["--version"], "/dev/full", None, FULL),
     (["check", "bulletin.session", "bulletin.txt", "bulletin.rsc", *OF_BULLETIN], os.devnull,
      few_files, "bulletin.txt: Too many open files (os error 24)"),
-    (["join", "out", "note.session", "bulletin.session", "--turns"], os.devnull, few_files,
-     "bulletin.session: Too many open files (os error 24)"),
     (["certify", "closed.txt", "out", *OF_NOTE, *NUMBERS], os.devnull, without_rights,
      "closed.txt: Permission denied (os error 13)"),
     (["show", "socket"], os.devnull, None, "socket: No such device or address (os error 6)"),

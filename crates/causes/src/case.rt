@@ -62,7 +62,7 @@ pub(crate) fn words_of(kind: Kind) -> (&'static str, &'static str) {
         Kind::Zstd => ("is compressed by zstd", ": zstd -d unpacks it"),
         Kind::Certificate => ("is a certificate", ""),
         Kind::Svg => ("is a picture (SVG)", ""),
-        Kind::Text => ("begins as text", ""),
+        Kind::Text => ("is text", ""),
     }
 }
 
