@@ -5,17 +5,24 @@ in the sentence.
 Each case runs the program in a folder of its own, with copies of the samples. It tells the words,
 the status, how standard output's last line begins, and what the sentence on standard error has to
 say. Besides, it tries what is said behind refused lines, before a reception that can't be kept, at
-once of an output that can't be created, and of progress.
+once of an output that can't be created, and of progress; what a file of a MiB is that is no
+session, for each command that reads one; and the system's own reason where a call of it fails.
 """
+import ctypes
+import gzip
 import os
 import pty
+import random
+import resource
 import shutil
+import socket
 import struct
 import subprocess
 import sys
 import tempfile
 import time
 
+from captures import FRAMES, pcap, section
 from trying import PROGRAM, ROOT, SAMPLES
 
 sys.path.insert(0, os.path.join(ROOT, "scripts"))
@@ -66,6 +73,11 @@ def make_files():
     session("damaged.session", [note[0], bytes(damaged)] + note[2:])
     session("clash.session", [note[0], note[1], bytes(damaged)] + note[2:])
     session("thin.session", note[:3])
+    session("first.session", datagrams("bulletin.session")[:10])
+    session("closed.session", note + [note[0][:28]])
+    # Behind the header's first word and the congestion control stand the TSI and the TOI.
+    front, behind = note[0][:3] + b"\0" + note[0][4:12], note[0][16:]
+    session("tabled.session", note + [front + bytes(4) + behind])
     session("twice.session", note + note)
     write("older.txt", read("note.txt")[:28])
     run(["encode", "older.txt", "older.session", *OF_NOTE, *NUMBERS])
@@ -91,6 +103,41 @@ def make_files():
         write("full.out.part" + (str(number) if number else ""), b"")
 
 
+    for name, begin in FRONTS.items():
+        write(name, (begin * (SIZE // len(begin) + 1))[:SIZE])
+    holder = socket.socket(socket.AF_UNIX)
+    holder.bind("socket")
+    holder.close()
+    write("closed.txt", read("note.txt"))
+    os.chmod("closed.txt", 0)
+
+
+SIZE = 1 << 20
+CHANCE = random.Random(1).randbytes(50000)
+# Files as large as an operator's, which are no sessions, each with what it is said to be. Of one
+# that is packed what follows the first bytes looks like chance.
+CAPTURE = pcap(FRAMES * 40)
+FRONTS = {
+    "air.pcap": CAPTURE,
+    "air.nano": pcap(FRAMES * 40, order=">", magic=0xA1B23C4D),
+    "air.pcapng": section(FRAMES * 40),
+    "air.pcap.gz": gzip.compress(CAPTURE[:1000]) + CHANCE,
+    "air.pcap.zst": bytes.fromhex("28b52ffd") + CHANCE,
+    "air.rsc": b"RSC2" + CHANCE,
+    "air.svg": b"<?xml version=\"1.0\" encoding=\"UTF-8\"?>\n<svg " + CHANCE,
+    "air.txt": b"a letter to somebody, line by line\n",
+}
+KINDS = {
+    "air.pcap": "is a capture (pcap), and no session: session_of_capture makes",
+    "air.nano": "is a capture (pcap), and no session: session_of_capture makes",
+    "air.pcapng": "is a capture (pcapng), and no session: session_of_capture makes",
+    "air.pcap.gz": "is compressed by gzip, and no session: gzip -d",
+    "air.pcap.zst": "is compressed by zstd, and no session: zstd -d",
+    "air.rsc": "is a certificate, and no session",
+    "air.svg": "is a picture (SVG), and no session",
+    "air.txt": "is text, and no session",
+}
+
 CHECK = ["note.txt", "note.rsc", *OF_NOTE]
 # The words, the status, how the last line begins, what the sentence says, and the file that is
 # standard input.
@@ -99,23 +146,24 @@ CASES = [
     (["check", "note.session", "nowhere.txt", "note.rsc", *OF_NOTE], 1, "fault open",
      ["nowhere.txt", "No such file"]),
     (["check", "note.session", "note.txt", "folder", *OF_NOTE], 1, "fault Z4",
-     ["folder is a folder"]),
-    (["show", "folder"], 1, "fault S4", ["folder is a folder"]),
+     ["folder: Is a directory (os error 21)"]),
+    (["show", "folder"], 1, "fault S4", ["folder: Is a directory"]),
     (["encode", "nowhere.txt", "out", *OF_NOTE, *NUMBERS], 1, "fault open",
      ["nowhere.txt", "No such file"]),
     (["encode", "note.txt", "no/out", *OF_NOTE, *NUMBERS], 1, "fault open",
-     ["no/out", "its folder no", "No such file"]),
+     ["no/out: No such file"]),
     (["encode", "note.txt", "note.txt/out", *OF_NOTE, *NUMBERS], 1, "fault open",
-     ["note.txt/out", "no folder"]),
-    (["encode", "note.txt", "folder", *OF_NOTE, *NUMBERS], 1, "fault open", ["folder is a folder"]),
+     ["note.txt/out: Not a directory"]),
+    (["encode", "note.txt", "folder", *OF_NOTE, *NUMBERS], 1, "fault open",
+     ["folder: Is a directory"]),
     (["encode", "note.txt", "full.out", *OF_NOTE, *NUMBERS], 1, "fault open",
-     ["full.out", "full.out.part"]),
+     ["full.out: all names for its parts are taken"]),
     (["encode", "note.txt", "/dev/full", *OF_NOTE, *NUMBERS], 1, "fault O3",
-     ["/dev/full", "a pipe or a device"]),
+     ["/dev/full: No space left on device (os error 28)"]),
     (["encode", "/proc/self/mem", "out", *OF_NOTE, *NUMBERS], 1, "fault file /proc/self/mem",
-     ["reading /proc/self/mem failed half way"]),
+     ["/proc/self/mem: Input/output error"]),
     (["convert", "note.txt", "out", *OF_NOTE], 1, "fault Z1",
-     ["note.txt begins as text", "the order is IN OUT"]),
+     ["note.txt is text", "the order is IN OUT"]),
     (["encode", "empty.txt", "out", *OF_NOTE, *NUMBERS], 1, "fault F1", ["empty.txt is empty"]),
     (
         ["encode", "note.txt", "out", *OF_NOTE, "--symbol", "8", "--block", "8", "--max", "4"],
@@ -132,30 +180,31 @@ CASES = [
     (["join", "out", "note.session", "cut.session"], 1, "fault S2",
      ["cut.session is cut off", "datagram 5"]),
     (["show", "long.session"], 1, "fault S3", ["long.session", "datagram 0", "above 65507"]),
-    (["show", "captured.pcap"], 1, "fault S", ["captured.pcap is a capture", "From a capture"]),
+    (["show", "captured.pcap"], 1, "fault S",
+     ["captured.pcap is a capture (pcap)", "From a capture"]),
     (["decode", "captured.pcapng", "out", *OF_NOTE], 1, "fault S",
-     ["captured.pcapng is a capture"]),
+     ["captured.pcapng is a capture (pcapng)"]),
     (["show", "note.rsc"], 1, "fault S", ["note.rsc is a certificate"]),
-    (["show", "note.txt"], 1, "fault S", ["note.txt begins as text"]),
+    (["show", "note.txt"], 1, "fault S", ["note.txt is text"]),
     (["show", "bad\nname.session"], 1, "fault S2", ["bad?name.session is cut off"]),
     (["drop", "note.session", "out", "9"], 1, "fault S6",
      ["note.session has 6 datagrams", "place 9"]),
     (["drop", "note.session", "out", "--places", "places.txt"], 1, "fault L1 NoPlace word 2",
-     ["places.txt: word 2, x7, in line 2, is no place"]),
+     ["places.txt: word 2 (x7) is no place"]),
     (["drop", "note.session", "out", "--places", "-"], 1, "fault L1 NoPlace word 0",
      ["standard input: word 0 is no place"], "note.txt"),
     (["drop", "note.session", "out", "--places", "none.txt"], 1, "fault open none.txt",
      ["none.txt", "No such file"]),
     (["drop", "-", "out", "--places", "-"], 1, "fault open -",
-     ["standard input can be read once"], "note.session"),
+     ["standard input: it can be read once"], "note.session"),
     (["check", "note.session", "note.txt", "note.txt", *OF_NOTE], 1, "fault Z1",
-     ["note.txt begins as text", "SESSION OBJECT CERT"]),
+     ["note.txt is text", "SESSION OBJECT CERT"]),
     (["check", "note.session", "note.txt", "short.rsc", *OF_NOTE], 1, "fault Z3",
      ["short.rsc is shorter or longer"]),
     (["convert", "note.rsc", "out", *OF_BULLETIN], 1, "fault Z6",
-     ["note.rsc is for another TSI or TOI than 7 and 1"]),
+     ["note.rsc is for TSI 7 and TOI 2, and not for TSI 7 and TOI 1: look at --tsi"]),
     (["check", "note.session", *CHECK[:2], *OF_BULLETIN], 1, "no N12",
-     ["note.rsc is for another TSI or TOI"]),
+     ["note.rsc is for TSI 7 and TOI 2, and not for TSI 7 and TOI 1"]),
     (["check", "note.session", "longer.txt", "note.rsc", *OF_NOTE], 1, "no N1",
      ["longer.txt", "note.rsc", "length"]),
     (["check", "note.session", "other.txt", "note.rsc", *OF_NOTE], 1, "no N2",
@@ -165,18 +214,24 @@ CASES = [
     (["check", "stray.session", *CHECK], 1, "no N4",
      ["stray.session", "datagram 2 is no packet", "alcrs drop"]),
     (["check", "other.session", *CHECK], 1, "no N6",
-     ["other.session", "datagram 0", "--max 16", "note.rsc"]),
+     ["other.session", "datagram 0", "--max 16, and note.rsc", "--max 12"]),
     (["check", "damaged.session", *CHECK], 1, "no N8",
      ["damaged.session", "datagram 1", "note.txt"]),
     (["check", "thin.session", *CHECK], 1, "no N9",
      ["thin.session has 3 different symbols of block 0", "4 are needed"]),
+    (["check", "first.session", "bulletin.txt", "bulletin.rsc", *OF_BULLETIN], 1, "no N9",
+     ["first.session has 10 ", "(3 of 3 blocks are short, by 27 symbols at most)"]),
+    (["check", "closed.session", *CHECK], 1, "no N4",
+     ["datagram 6 is no packet but a header alone, as what closes a session is"]),
+    (["decode", "tabled.session", "out", *OF_NOTE], 1, "fault R1",
+     ["datagram 6 is no packet but one of TOI 0, as FLUTE's delivery table is"]),
     (["check", "bare.session", *CHECK], 1, "no N11", ["bare.session", "FTI"]),
     (["check", "thin.session", *CHECK, "--picture", "out.svg"], 1, "no N9",
      ["thin.session has 3", "no picture is drawn of a no"]),
     (["check", "note.session", *CHECK, "--picture", "no/out.svg"], 1, "fault open",
-     ["no/out.svg", "its folder no"]),
+     ["no/out.svg: No such file"]),
     (["decode", "stale.session", "out", *OF_NOTE], 1, "fault R3",
-     ["datagram 0 tells a length of 28", "datagram 1 tells 29"]),
+     ["datagram 0 tells a length of 28", "datagram 1 tells a length of 29"]),
     (["decode", "clash.session", "out", *OF_NOTE], 1, "fault R5",
      ["clash.session", "datagram 2", "damaged"]),
     (["decode", "damaged.session", "out", *OF_NOTE], 1, "fault R6", ["damaged.session", "block 0"]),
@@ -184,28 +239,28 @@ CASES = [
      ["thin.session has 3 different symbols of block 0", "alcrs join"]),
     (["decode", "bare.session", "out", *OF_NOTE], 3, "empty", ["bare.session", "carries the FTI"]),
     (["check", "twice.session", *CHECK], 0, "burst",
-     ["at least 6 datagrams of twice.session are repeats of others"]),
+     ["6 datagrams of twice.session are repeats of others"]),
     (["follow", "thin.session", "out", *OF_NOTE], 3, "missing",
      ["3 different symbols of block 0 were taken of thin.session", "alcrs join"]),
     (["follow", "ranged.session", "out", *OF_NOTE], 3, "empty",
      ["ranged.session: datagram 0 carries the FTI, and was refused"]),
     (["follow", "vast.session", "out", *OF_NOTE], 1, "fault file out",
-     ["out can't be written", "by datagram 0 the object has 140737488355328 bytes"]),
+     ["out: File too large", "by datagram 0 the object has 140737488355328 bytes"]),
     (["follow", "clash.session", "out", *OF_NOTE], 0, "object",
      ["1 datagrams of clash.session contradict", "the object wrong"]),
     (["check", "-", *CHECK[:2], *OF_BULLETIN], 1, "no N12",
-     ["note.rsc is for another TSI or TOI"], "note.session"),
+     ["note.rsc is for TSI 7 and TOI 2"], "note.session"),
     (["check", "-", "bulletin.txt", "bulletin.rsc", *OF_BULLETIN], 1, "no N3",
      ["standard input has no packet of TSI 7"], "note.session"),
     (["check", "-", "-", "note.rsc", *OF_NOTE], 1, "fault open -",
-     ["standard input can be read once"], "note.session"),
+     ["standard input: it can be read once"], "note.session"),
     (["join", "out", "-", "-"], 1, "fault open -",
-     ["standard input can be read once"], "note.session"),
-    (["show", "-"], 1, "fault S4", ["standard input is a folder"], "folder"),
+     ["standard input: it can be read once"], "note.session"),
+    (["show", "-"], 1, "fault S4", ["standard input: Is a directory"], "folder"),
     (["decode", "note.session", "note.txt", *OF_NOTE, "-n"], 1, "fault open",
-     ["note.txt is there already", "--no-clobber"]),
+     ["note.txt: it is there already", "--no-clobber"]),
     (["check", "note.session", *CHECK, "-n", "--picture", "folder"], 1, "fault open",
-     ["folder is there already", "--no-clobber"]),
+     ["folder: it is there already", "--no-clobber"]),
     # What was done, or is told whole by its line, has no sentence.
     (["decode", "cut.session", "out", *OF_NOTE, "-q"], 1, "fault S2", None),
     (["check", "twice.session", *CHECK, "--quiet"], 0, "burst", None),
@@ -248,10 +303,9 @@ REFUSED = [
 # The words of receptions that can't be kept, and what is said before they begin.
 LOST = [
     (["follow", "-", "no/out", *OF_NOTE],
-     ["can't be kept", "no/out", "its folder no", "No such file"]),
-    (["follow", "-", "folder", *OF_NOTE], ["can't be kept", "folder is a folder"]),
-    (["follow", "-", "/proc/out", *OF_NOTE],
-     ["can't be kept", "/proc/out can't be written: ", "(os error"]),
+     ["can't be kept: no/out: No such file"]),
+    (["follow", "-", "folder", *OF_NOTE], ["can't be kept: folder: Is a directory"]),
+    (["follow", "-", "/proc/out", *OF_NOTE], ["can't be kept: /proc/out: ", "(os error"]),
 ]
 
 
@@ -266,6 +320,107 @@ UNMADE = [
     (["decode", "note.session", "note.txt", *OF_NOTE, "-n"],
      "note.txt can't be created: it is there already, and stays by --no-clobber"),
     (["drop", "note.session", "no/\x1b[2J", "0"], "no/?[2J can't be created: No such file"),
+]
+
+
+def is_kind_told(case):
+    """Whether a command that takes a large file for a session says what it is instead."""
+    name, words = case
+    ran = run(words)
+    said = ran.stderr.decode()
+    is_right = ran.returncode != 0 and said.startswith(f"alcrs: {name} {KINDS[name]}")
+    if not is_right:
+        print(f"alcrs {' '.join(words)}: {ran.returncode}, {ran.stdout[-80:]!r}, {said!r}")
+    return is_right
+
+
+def kind_cases():
+    for name in KINDS:
+        yield name, ["show", name]
+        yield name, ["show", name, "--summary"]
+        yield name, ["check", name, *CHECK]
+        yield name, ["decode", name, "out", *OF_NOTE]
+        yield name, ["follow", name, "out", *OF_NOTE]
+        yield name, ["salvage", name, "out"]
+        yield name, ["join", "out", "note.session", name]
+        yield name, ["twin", name, *CHECK[:2], "out", *OF_NOTE]
+
+
+def without_rights():
+    """Takes from root what lets it read each file."""
+    if os.geteuid() == 0:
+        for capability in (1, 2):
+            ctypes.CDLL(None).prctl(24, capability, 0, 0, 0)
+
+
+def few_files():
+    resource.setrlimit(resource.RLIMIT_NOFILE, (4, 4))
+
+
+FULL = "standard output: No space left on device (os error 28)"
+# The words, where standard output goes, what is done before, and the sentence.
+OF_SYSTEM = [
+    (["show", "bulletin.session"], "/dev/full", None, FULL),
+    (["show", "bulletin.session", "--summary"], "/dev/full", None, FULL),
+    (["check", "note.session", *CHECK], "/dev/full", None, FULL),
+    (["encode", "note.txt", "out", *OF_NOTE, *NUMBERS], "/dev/full", None, FULL),
+    (["decode", "note.session", "out", *OF_NOTE], "/dev/full", None, FULL),
+    (["follow", "note.session", "out", *OF_NOTE], "/dev/full", None, FULL),
+    (["decode", "nowhere", "out", *OF_NOTE], "/dev/full", None, FULL),
+    (["--help"], "/dev/full", None, FULL),
+    (["--version"], "/dev/full", None, FULL),
+    (["check", "bulletin.session", "bulletin.txt", "bulletin.rsc", *OF_BULLETIN], os.devnull,
+     few_files, "bulletin.txt: Too many open files (os error 24)"),
+    (["certify", "closed.txt", "out", *OF_NOTE, *NUMBERS], os.devnull, without_rights,
+     "closed.txt: Permission denied (os error 13)"),
+    (["show", "socket"], os.devnull, None, "socket: No such device or address (os error 6)"),
+]
+
+
+def is_system_told(case):
+    """Whether the system's own reason is said, with the file's name."""
+    words, output, before, sentence = case
+    with open(output, "wb") as out:
+        ran = subprocess.run([PROGRAM, *words], stdin=subprocess.DEVNULL, stdout=out, timeout=60,
+                             stderr=subprocess.PIPE, preexec_fn=before, check=False)
+    said = ran.stderr.decode()
+    is_right = ran.returncode == 1 and f"alcrs: {sentence}\n" == said
+    if not is_right:
+        print(f"alcrs {' '.join(words)} > {output}: {ran.returncode}, {said!r}")
+    return is_right
+
+
+FILLED = """mount -t tmpfs -o size=64k none full && shift && exec "$@" """
+
+
+def is_full_disk_told(words):
+    """Whether it is said that no room is left on a disk of 64 KiB, if one may be mounted."""
+    if shutil.which("unshare") is None:
+        return True
+    inside = ["unshare", "-r", "-m", "sh", "-c", FILLED, "sh", "-"]
+    if subprocess.run([*inside, "true"], capture_output=True, check=False).returncode:
+        return True
+    ran = subprocess.run([*inside, PROGRAM, *words], stdin=subprocess.DEVNULL, timeout=60,
+                         capture_output=True, check=False)
+    _, said = at_once(ran.stderr.decode())
+    is_right = ran.returncode == 1 and said.startswith(
+        "alcrs: full/out: No space left on device (os error 28)")
+    if not is_right:
+        print(f"alcrs {' '.join(words)}: {ran.returncode}, {ran.stdout!r}, {said!r}")
+    return is_right
+
+
+LARGE = ["--symbol", "1000", "--block", "100", "--max", "120"]
+# What doesn't fit a disk of 64 KiB.
+TOO_LARGE = [
+    ["encode", "air.pcap", "full/out", *OF_NOTE, *LARGE],
+    ["encode", "air.pcap", "full/out", *OF_NOTE, *LARGE, "--order", "rounds"],
+    ["certify", "air.pcap", "full/out", *OF_NOTE, *LARGE],
+    ["decode", "large.session", "full/out", *OF_NOTE],
+    ["follow", "large.session", "full/out", *OF_NOTE],
+    ["drop", "large.session", "full/out", "0"],
+    ["join", "full/out", "large.session"],
+    ["salvage", "large.session", "full/out"],
 ]
 
 
@@ -398,9 +553,14 @@ def main():
                 shutil.copy(os.path.join(SAMPLES, name), room)
         os.chdir(room)
         make_files()
+        os.mkdir("full")
+        run(["encode", "air.pcap", "large.session", *OF_NOTE, *LARGE])
         told = [is_told(case) for case in CASES] + [is_forewarned(case) for case in LOST]
         told += [is_refused(case) for case in REFUSED]
         told += [is_told_at_once(case) for case in UNMADE]
+        told += [is_kind_told(case) for case in kind_cases()]
+        told += [is_system_told(case) for case in OF_SYSTEM]
+        told += [is_full_disk_told(words) for words in TOO_LARGE]
         told.append(is_progress_told())
     print(f"{sum(told)} of {len(told)} causes are told")
     sys.exit(not all(told))

@@ -3,17 +3,19 @@
 
 mod words;
 
-use causes::{doubt, explain, forewarn, refused, repeated};
-use program_host::{BUFFER_SIZE, LastLine, ProgramHost};
+use causes::{explain, refused};
+use commands::{Stop, Why};
+use inspection::Failure;
+use program_host::{BUFFER_SIZE, Failures, Noted, ProgramHost};
 use progress::Progress;
-use request::{Request, Usage, command_line};
+use request::{CommandLine, Request, Usage, command_line};
 use session::Device;
 use std::alloc::{AllocError, Global};
-use std::fs;
-use std::io::{BufWriter, IsTerminal};
+use std::fs::{self, File};
+use std::io::{BufWriter, ErrorKind, IsTerminal};
 use std::process::ExitCode;
 use std::rt::Files;
-use tool::{answer, refuse, refuse_memory, status_after};
+use tool::{carry_out, refuse, refuse_memory, status_after};
 use words::{WordFault, read_words, refuse_word};
 
 // The words as they are taken by what reads them.
@@ -25,53 +27,41 @@ fn views_of(alloc: Global, words: &[String]) -> Result<Vec<&str>, AllocError> {
     Ok(views)
 }
 
-// Says on standard error why the command ended with its status, as its last line tells, where there
-// is more to say.
-fn tell_cause<R: Files + Eprint>(
+// Says on standard error why the command ended as it did, or its line was refused, where there is
+// more to say.
+fn tell_cause<R: Files<File = File> + Eprint>(
     rt: &R,
     alloc: Global,
-    words: &[&str],
-    last: &LastLine,
-    status: u8,
+    line: &Result<CommandLine<'_>, Usage<'_>>,
+    why: Result<Why, Stop<'_>>,
+    failure: Option<&Failure>,
 ) {
-    let line = match command_line(alloc, words) {
-        Ok(line) => line,
-        Err(Usage::Line(error)) => {
+    match (line, why) {
+        (Ok(line), _) if line.quiet => {}
+        (_, Err(Stop::Unprinted)) => tell(rt, unprinted(alloc, failure)),
+        (Ok(line), why) => tell(rt, explain(rt, alloc, &line.request, why, failure)),
+        (Err(Usage::Line(error)), _) => {
             if let Ok(text) = error.to_string(alloc) {
                 tell(rt, refused(alloc, error.kind(), text.as_str()));
             }
-            return;
         }
-        Err(_) => return,
-    };
-    if line.quiet {
-        return;
+        _ => {}
     }
-    let request = &line.request;
-    if status != 0 {
-        tell(rt, explain(rt, alloc, request, last.text()));
+}
+
+// Why standard output can't be written. Who reads it through a pipe may have had enough.
+fn unprinted(alloc: Global, failure: Option<&Failure>) -> Result<Option<String>, AllocError> {
+    match failure {
+        Some(failure) if failure.kind != ErrorKind::BrokenPipe => {
+            Ok(Some(failure.to_string(alloc)?))
+        }
+        _ => Ok(None),
     }
-    tell(rt, doubt(rt, alloc, request, last.contradictions()));
-    tell(rt, repeated(rt, alloc, request, last.repeats()));
 }
 
 fn tell<R: Eprint>(rt: &R, sentence: Result<Option<String>, AllocError>) {
     if let Ok(Some(sentence)) = sentence {
         let _ = eprintln!(rt; "alcrs: {sentence}");
-    }
-}
-
-// Says before a reception begins whether what comes can't be kept.
-fn tell_beforehand<O: std::io::Write + Drop>(
-    rt: &HostRuntime,
-    alloc: Global,
-    request: &Request<'_>,
-    host: &mut ProgramHost<'_, HostRuntime, O>,
-) {
-    if let Request::Follow(follow) = request {
-        if host.refuses(&follow.output) {
-            tell(rt, forewarn(rt, alloc, request));
-        }
     }
 }
 
@@ -91,17 +81,15 @@ fn may_print_between(rt: &HostRuntime, request: &Request<'_>) -> bool {
 // Says what is known before a command begins, and watches over what it reads.
 fn begin<O: std::io::Write + Drop>(
     rt: &HostRuntime,
-    alloc: Global,
-    words: &[&str],
+    line: &CommandLine<'_>,
     host: &mut ProgramHost<'_, HostRuntime, O>,
 ) {
-    let Ok(line) = command_line(alloc, words) else {
-        return;
-    };
     if line.quiet {
         return;
     }
-    tell_beforehand(rt, alloc, &line.request, host);
+    if let Request::Follow(follow) = &line.request {
+        host.forewarn(&follow.output);
+    }
     host.tell();
     if rt.stderr().is_terminal() && !may_print_between(rt, &line.request) {
         host.watch(rt.stdout().is_terminal());
@@ -116,13 +104,43 @@ fn refuse_without_memory<O: std::io::Write + Drop>(
     ExitCode::from(status_after(status, host.flush()))
 }
 
+// Does what the words ask for, and answers the status.
+fn obey<'a, O: std::io::Write + Drop>(
+    rt: &HostRuntime,
+    alloc: Global,
+    words: &'a [&'a str],
+    host: &mut ProgramHost<'_, HostRuntime, O>,
+    failures: &Failures,
+) -> u8 {
+    let line = command_line(alloc, words);
+    if let Ok(line) = &line {
+        begin(rt, line, host);
+    }
+    let mut err = Device::new(rt.stderr());
+    let settled = carry_out(alloc, &line, host, &mut err);
+    host.end_watch();
+    let flushed = host.flush();
+    let failure = failures.take();
+    let why = match flushed {
+        Ok(()) => settled.why,
+        Err(_) => Err(Stop::Unprinted),
+    };
+    tell_cause(rt, alloc, &line, why, failure.as_ref());
+    status_after(settled.status, flushed)
+}
+
 fn main(rt: HostRuntime) -> ExitCode {
     let alloc = rt.alloc();
-    let Ok(buffer) = BufWriter::with_capacity(alloc, BUFFER_SIZE, rt.stdout()) else {
+    let failures = Failures::new(alloc);
+    let Ok(name) = "standard output".to_string(alloc) else {
+        return ExitCode::from(refuse_memory(&mut Device::new(rt.stdout())));
+    };
+    let out = Noted::new(rt.stdout(), name, &failures);
+    let Ok(buffer) = BufWriter::with_capacity(alloc, BUFFER_SIZE, out) else {
         return ExitCode::from(refuse_memory(&mut Device::new(rt.stdout())));
     };
     let progress = Progress::new();
-    let mut host = ProgramHost::new(&rt, alloc, Device::new(buffer), &progress);
+    let mut host = ProgramHost::new(&rt, alloc, Device::new(buffer), &progress, &failures);
     let words = match read_words(&rt, alloc) {
         Ok(words) => words,
         Err(WordFault::NoText(place)) => return ExitCode::from(refuse_word(&rt, place)),
@@ -131,11 +149,5 @@ fn main(rt: HostRuntime) -> ExitCode {
     let Ok(views) = views_of(alloc, words.as_slice()) else {
         return refuse_without_memory(&mut host);
     };
-    begin(&rt, alloc, &views, &mut host);
-    let mut err = Device::new(rt.stderr());
-    let status = answer(alloc, &views, &mut host, &mut err);
-    host.end_watch();
-    let status = status_after(status, host.flush());
-    tell_cause(&rt, alloc, &views, host.last(), status);
-    ExitCode::from(status)
+    ExitCode::from(obey(&rt, alloc, &views, &mut host, &failures))
 }

@@ -1,38 +1,29 @@
--- Behind which lines, requests and refusals there is a sentence.
-use Rattle.std.specs.Prelude.{◌≡◌, ◌⊎◌, ◌||◌, ℕ, Bool, true, false, List, nat_eq, nat_lt, codes}
-use Rattle.std.specs.List.{starts_with}
+-- Of which ends and refusals there is a sentence.
+use Rattle.std.specs.Prelude.{◌≡◌, ◌⊎◌, ℕ, Bool, true, false, List, Result, Ok, ⊤, codes, nat_lt}
 use Rattle.std.specs.Str.Iter.{HasSubslice}
 use Rattle.clap.specs.declared.error.kind.ErrorKind.{ErrorKind}
 use Rattle.clap.specs.declared.error.kind.ErrorKind.TheVariants.{ValueValidation}
 use Rattle.clap.specs.declared.error.kind.ErrorKind.TheVariants.{UnknownArgument}
 use Rattle.request.specs.declared.requests.Request.{Request}
-use Rattle.request.specs.declared.requests.Request.TheVariants.{Check, Follow}
+use Rattle.request.specs.declared.requests.Request.TheVariants.{Check, Twin}
+use Rattle.commands.specs.declared.done.Why.{Why}
+use Rattle.commands.specs.declared.done.Why.TheVariants.{Plain, Yes, Empty, Missing, Contradicted}
+use Rattle.commands.specs.declared.fault.Stop.{Stop}
 
--- the line says that too little came
-abbrev pub is_lack : List ℕ → Bool
-is_lack line =
-    starts_with nat_eq line (codes "missing ") || starts_with nat_eq line (codes "empty")
+-- a yes counts repeats, so many of them; or there is no twin
+abbrev pub TellsYes : Request → ℕ → Bool → Type 0
+TellsYes (Check r) repeats said = said ≡ nat_lt 0 repeats
+TellsYes (Twin r) repeats said = said ≡ true
+TellsYes r repeats said = said ≡ false
 
--- so it does, or it is a fault, a no or what was kept of a session
-abbrev pub may_be_explained : List ℕ → Bool
-may_be_explained line =
-    is_lack line || starts_with nat_eq line (codes "fault ")
-    || starts_with nat_eq line (codes "no ") || starts_with nat_eq line (codes "kept ")
-
--- what comes is lost where it can't be kept
-abbrev pub is_reception : Request → Bool
-is_reception (Follow r) = true
-is_reception r = false
-
--- the object that was followed may be wrong: datagrams contradicted it, so many of them
-abbrev pub is_doubted : Request → ℕ → Bool
-is_doubted (Follow r) contradictions = nat_lt 0 contradictions
-is_doubted r contradictions = false
-
--- a yes counts repeats, so many of them
-abbrev pub tells_repeats : Request → ℕ → Bool
-tells_repeats (Check r) repeats = nat_lt 0 repeats
-tells_repeats r repeats = false
+-- there is a sentence on an end: none where its lines say all, and one where too little came
+abbrev pub IsSaid : Request → Result Why Stop → Bool → Type 0
+IsSaid r (Ok Plain) said = said ≡ false
+IsSaid r (Ok (Yes repeats)) said = TellsYes r repeats said
+IsSaid r (Ok Empty) said = said ≡ true
+IsSaid r (Ok (Missing block have need)) said = said ≡ true
+IsSaid r (Ok (Contradicted contradictions)) said = said ≡ nat_lt 0 contradictions
+IsSaid r why said = ⊤
 
 -- the refusal's text has the tip to write the word as the name of a file
 abbrev pub HasTip : List ℕ → Type 0

@@ -19,8 +19,8 @@ use crate::summary::summary_lines;
 use cert::{Reason, Report, Survey, Verdict, check_from, survey_from};
 use certificate::Certificate;
 use commands::{
-    Done, Fault, Text, Told, certificate_in, object_in, open, put_packet_fault, read_certificate,
-    write_output,
+    Done, Fault, Text, Told, Why, certificate_in, object_in, open, put_packet_fault,
+    read_certificate, write_output,
 };
 use file_check::{Files, check_files, survey_files};
 use host::Host;
@@ -225,6 +225,7 @@ fn told_of(alloc: Global, summary: bool, verdict: &Verdict) -> Result<Done, Allo
     Ok(Done {
         told: Told::Lines(verdict_text(alloc, summary, verdict)?),
         status: status_of(verdict),
+        why: Why::from(verdict),
     })
 }
 

@@ -22,7 +22,7 @@ use crate::faults::check_fault;
 use cert::{TwinFault, Verdict, session_twin, write_twin};
 use certificate::Certificate;
 use commands::{
-    Done, Fault, Text, Told, Unwritten, certificate_in, commit, if_unchanged, object_in, open,
+    Done, Fault, Text, Told, Unwritten, Why, certificate_in, commit, if_unchanged, object_in, open,
     pass_frames, read_certificate, read_object, session_in, write_output,
 };
 use file_check::{Files, ShortBlock, check_for_twin};
@@ -237,9 +237,17 @@ fn tell_held<'a, H: Host>(
         Some(other) => {
             let failure = Fault::File(request.output.name);
             write_output(host, &request.output, other.as_slice(), failure)?;
-            Ok(Done { told, status: 0 })
+            Ok(Done {
+                told,
+                status: 0,
+                why: Why::Plain,
+            })
         }
-        None => Ok(Done { told, status: 1 }),
+        None => Ok(Done {
+            told,
+            status: 1,
+            why: Why::Plain,
+        }),
     }
 }
 
@@ -322,7 +330,11 @@ fn tell_found<'a, H: Host>(
         Some(short) => write_short(alloc, host, request, object, &short),
         None => {
             let told = Told::Lines(untwinned_line(alloc, verdict)?);
-            Ok(Done { told, status: 1 })
+            Ok(Done {
+                told,
+                status: 1,
+                why: Why::from(verdict),
+            })
         }
     }
 }
@@ -350,7 +362,11 @@ fn write_short<'a, H: Host>(
     let written = if_unchanged(host, request.object, Some(object), written);
     let failure = Fault::File(request.output.name);
     commit(host, &request.output, file, written, failure)?;
-    Ok(Done { told, status: 0 })
+    Ok(Done {
+        told,
+        status: 0,
+        why: Why::Plain,
+    })
 }
 
 // Answers the number of bytes.

@@ -17,7 +17,7 @@ mod sizes;
 mod telling;
 mod wording;
 
-pub use done::{Done, Told};
+pub use done::{Done, Ended, Told, Why};
 pub use fault::{Fault, Stop};
 pub use frames::pass_frames;
 pub use input::{

@@ -1,12 +1,12 @@
 //! How it is told what a command has done.
-ghost use Rattle.std.specs.Prelude.{◌≡◌, ◌≤◌, true, IfOk, IfErr, OnOk, OnErr};
+ghost use Rattle.std.specs.Prelude.{◌≡◌, true, IfOk, IfErr, OnOk, OnErr};
 ghost use Rattle.std.specs.Io.KnownBytes.{Appends};
 ghost use Rattle.request.specs.declared.requests.Request.{Request as RequestValue};
 ghost use Rattle.host.specs.World.{World, KeepsFiles};
 ghost use Rattle.commands.specs.Doing.{text_of, HasMade, HasStopped, IsUndone};
 ghost use Rattle.commands.specs.Outcomes.{IsDone};
 
-use crate::done::{Done, Told};
+use crate::done::{Done, Ended, Told};
 use crate::fault::{Fault, Stop};
 use crate::print::print_count;
 use host::Host;
@@ -27,18 +27,20 @@ impl Told {
     }
 }
 
-/// Prints what was done, and answers the status.
-pub fn finish<'a, H: Host>(host: &mut H, done: Result<Done, Fault<'a>>) -> Result<u8, Stop<'a>>
+/// Prints what was done, and answers how the command ended.
+pub fn finish<'a, H: Host>(host: &mut H, done: Result<Done, Fault<'a>>) -> Result<Ended, Stop<'a>>
     ensures ok { (old : World) (r : RequestValue)
         → IfOk done.entry (HasMade old (H.world host.old) r)
-        → IfOk result (IsDone old (H.world host.new) r) }
+        → IfOk result (λ ended. IsDone old (H.world host.new) r ended.status) }
     ensures fault { (old : World) (r : RequestValue)
         → IfOk done.entry (HasMade old (H.world host.old) r)
         → IfErr done.entry (HasStopped old (H.world host.old) r)
         → IfErr result (IsUndone old (H.world host.new) r) }
-    ensures small { IfOk result (λ status. status ≤ 3) }
 {
     let done = done?;
     done.told.print(host)?;
-    Ok(done.status)
+    Ok(Ended {
+        status: done.status,
+        why: done.why,
+    })
 }

@@ -1,183 +1,110 @@
-//! Why a file can't be had, and what it is.
-use crate::names::{Name, STANDARD_INPUT, input_name};
-use request::Output;
+//! What a file is by its first bytes.
+use crate::names::STANDARD_INPUT;
+use partition::Fti;
+use reception::Identity;
 use session::{Device, Read, fill};
-use std::alloc::{AllocError, Global};
-use std::fs::{File, OpenOptions};
-use std::io::ErrorKind;
+use std::fs::{self, File};
 use std::rt::Files;
-use std::{fs, io};
 
-/// What a file begins as.
+/// What a file begins as. No session begins so: its first datagram would be no packet.
 #[derive(Clone, Copy, PartialEq, Eq)]
 pub enum Kind {
-    Capture,
+    Pcap,
+    Pcapng,
+    Gzip,
+    Zstd,
     Certificate,
+    Svg,
     Text,
-    Other,
 }
 
 /// Where the system has standard input.
 const INPUT_DEVICE: &str = "/dev/stdin";
 
-/// Whether this name leads to a regular file, which can be read again. Standard input can't,
+/// A regular file, from its first byte on. Nothing else can be read again; nor can standard input,
 /// wherever it comes from.
-pub(crate) fn is_regular<R: Files>(rt: &R, name: &str) -> bool {
+pub(crate) fn open_again<R: Files<File = File>>(rt: &R, name: &str) -> Option<File> {
     if name == STANDARD_INPUT || name == INPUT_DEVICE {
-        return false;
+        return None;
     }
     match fs::metadata(rt, name) {
-        Ok(there) => there.is_file(),
-        Err(_) => false,
-    }
-}
-
-// The path of an input.
-fn path_of(name: &str) -> &str {
-    if name == STANDARD_INPUT {
-        INPUT_DEVICE
-    } else {
-        name
+        Ok(there) if there.is_file() => fs::open(rt, name).ok(),
+        _ => None,
     }
 }
 
 fn is_text(front: &[u8]) -> bool {
-    for byte in front {
-        let is_printable = (32..127).contains(byte) || *byte == 9 || *byte == 10 || *byte == 13;
-        if !is_printable {
-            return false;
-        }
-    }
     !front.is_empty()
+        && front
+            .iter()
+            .all(|byte| matches!(*byte, 32..=126 | 9 | 10 | 13))
 }
 
-// By the first bytes: those of pcap in either order of bytes, with micro- or nanoseconds, those of
-// pcapng, and those of a certificate.
-fn kind_of_front(front: &[u8]) -> Kind {
+// Of pcap the magic number stands in either order of bytes, with micro- or nanoseconds.
+fn kind_of_front(front: &[u8]) -> Option<Kind> {
     match front {
-        [0xd4, 0xc3, 0xb2, 0xa1, ..]
-        | [0xa1, 0xb2, 0xc3, 0xd4, ..]
-        | [0x4d, 0x3c, 0xb2, 0xa1, ..]
-        | [0xa1, 0xb2, 0x3c, 0x4d, ..]
-        | [0x0a, 0x0d, 0x0d, 0x0a, ..] => Kind::Capture,
-        [b'R', b'S', b'C', b'1' | b'2', ..] => Kind::Certificate,
-        _ => {
-            if is_text(front) {
-                Kind::Text
-            } else {
-                Kind::Other
-            }
+        [0xd4 | 0x4d, 0xc3 | 0x3c, 0xb2, 0xa1, ..] | [0xa1, 0xb2, 0xc3 | 0x3c, 0xd4 | 0x4d, ..] => {
+            Some(Kind::Pcap)
         }
+        [0x0a, 0x0d, 0x0d, 0x0a, ..] => Some(Kind::Pcapng),
+        [0x1f, 0x8b, 8, ..] => Some(Kind::Gzip),
+        [0x28, 0xb5, 0x2f, 0xfd, ..] => Some(Kind::Zstd),
+        [b'R', b'S', b'C', b'1' | b'2', ..] => Some(Kind::Certificate),
+        [b'<', b's', b'v', b'g', ..] | [b'<', b'?', b'x', b'm', b'l', ..] => Some(Kind::Svg),
+        _ if is_text(front) => Some(Kind::Text),
+        _ => None,
     }
 }
 
-/// What a regular file is, by its first bytes.
-pub fn kind_of<R: Files>(rt: &R, name: &str) -> Kind {
-    if !is_regular(rt, name) {
-        return Kind::Other;
-    }
-    let Ok(file) = fs::open(rt, name) else {
-        return Kind::Other;
-    };
+/// What a regular file is, by its first bytes, where these tell.
+pub fn kind_of<R: Files<File = File>>(rt: &R, name: &str) -> Option<Kind> {
     let mut front = [0u8; 16];
-    match fill(&mut Device::new(file), &mut front) {
-        Ok(got) => kind_of_front(&front[..got]),
-        Err(_) => Kind::Other,
+    let got = front_of(rt, name, &mut front)?;
+    kind_of_front(front.get(..got)?)
+}
+
+// Reads the first bytes of a regular file, and answers how many there are.
+fn front_of<R: Files<File = File>>(rt: &R, name: &str, front: &mut [u8]) -> Option<usize> {
+    let file = open_again(rt, name)?;
+    fill(&mut Device::new(file), front).ok()
+}
+
+/// Whose packets a certificate is for, where it names them, and its FTI, if its numbers are one.
+#[derive(Clone, Copy)]
+pub struct Head {
+    pub identity: Option<Identity>,
+    pub fti: Option<Fti>,
+}
+
+fn number(bytes: &[u8]) -> u128 {
+    let mut number = 0;
+    for byte in bytes {
+        number = (number << 8) | u128::from(*byte);
+    }
+    number
+}
+
+// The TSI of RSC2 is in the six bytes behind the text's name, and the TOI in the 14 after them.
+fn head_of(front: &[u8; 34]) -> Option<Head> {
+    match front {
+        [b'R', b'S', b'C', b'2', ..] => Some(Head {
+            identity: Some(Identity {
+                tsi: u64::try_from(number(&front[4..10])).ok()?,
+                toi: number(&front[10..24]),
+            }),
+            fti: Fti::from_bytes(&front[24..34], None).ok(),
+        }),
+        [b'R', b'S', b'C', b'1', ..] => Some(Head {
+            identity: None,
+            fti: Fti::from_bytes(&front[4..14], None).ok(),
+        }),
+        _ => None,
     }
 }
 
-/// The system's reason why a file can't be read, if it has one.
-pub fn unread<R: Files>(rt: &R, alloc: Global, name: &str) -> Result<Option<String>, AllocError> {
-    let shown = input_name(name);
-    let reason = match fs::metadata(rt, path_of(name)) {
-        Ok(there) if there.is_dir() => return Ok(Some(format!(in alloc; "{shown} is a folder")?)),
-        Ok(_) if is_regular(rt, name) => fs::open(rt, name).err(),
-        Ok(_) => None,
-        Err(error) => Some(error),
-    };
-    match reason {
-        Some(error) => Ok(Some(format!(in alloc; "{shown}: {error}")?)),
-        None => Ok(None),
-    }
-}
-
-// The folder of a file: what stands in front of the last slash.
-fn folder_of(name: &str) -> &str {
-    match name.rsplit_once('/') {
-        Some(("", _)) => "/",
-        Some((folder, _)) => folder,
-        None => ".",
-    }
-}
-
-// The system's reason why no file can be made beside this one, if it has one, by a try that leaves
-// nothing. Beside a pipe, a device or a link none is made.
-fn unmade<R: Files>(rt: &R, alloc: Global, name: &str) -> Result<Option<io::Error>, AllocError> {
-    match fs::symlink_metadata(rt, name) {
-        Ok(there) if !there.is_file() => return Ok(None),
-        _ => {}
-    }
-    let part = format!(in alloc; "{name}.part")?;
-    match File::create_new(rt, part.as_str()) {
-        Ok(file) => {
-            drop(file);
-            let _ = fs::remove_file(rt, part.as_str());
-            Ok(None)
-        }
-        Err(error) if error.kind() == ErrorKind::AlreadyExists => Ok(None),
-        Err(error) => Ok(Some(error)),
-    }
-}
-
-/// Why an output can't be written, as far as the system tells before it is.
-pub fn unwritten<R: Files>(
-    rt: &R,
-    alloc: Global,
-    output: Output<'_>,
-) -> Result<String, AllocError> {
-    let shown = Name { text: output.name };
-    if output.no_clobber && fs::symlink_metadata(rt, output.name).is_ok() {
-        return format!(in alloc;
-            "{shown} is there already, and stays by --no-clobber: take another name"
-        );
-    }
-    unwritten_file(rt, alloc, output.name)
-}
-
-fn unwritten_file<R: Files>(rt: &R, alloc: Global, name: &str) -> Result<String, AllocError> {
-    let shown = Name { text: name };
-    let folder = folder_of(name);
-    match fs::metadata(rt, folder) {
-        Ok(there) if there.is_dir() => {}
-        Ok(_) => {
-            let folder = Name { text: folder };
-            return format!(in alloc; "{shown} can't be written: {folder} is no folder");
-        }
-        Err(error) => {
-            let folder = Name { text: folder };
-            return format!(in alloc; "{shown} can't be written: its folder {folder}: {error}");
-        }
-    }
-    match fs::metadata(rt, name) {
-        Ok(there) if there.is_dir() => return format!(in alloc; "{shown} is a folder"),
-        Ok(there) if there.is_file() => {
-            if let Err(error) = OpenOptions::new().write(true).open(rt, name) {
-                return format!(in alloc; "{shown} can't be written: {error}");
-            }
-        }
-        Ok(_) => {
-            return format!(in alloc;
-                "{shown} can't be written: it is a pipe or a device, which takes no more or can't \
-                be opened"
-            );
-        }
-        Err(_) => {}
-    }
-    if let Some(error) = unmade(rt, alloc, name)? {
-        return format!(in alloc; "{shown} can't be written: {error}");
-    }
-    format!(in alloc;
-        "{shown} can't be written: is there room on the disk, may files be made in \
-        its folder, and do no hundred files stand there that are called {shown}.part and so on?"
-    )
+/// What a certificate's file begins with.
+pub fn certificate_head<R: Files<File = File>>(rt: &R, name: &str) -> Option<Head> {
+    let mut front = [0u8; 34];
+    front_of(rt, name, &mut front)?;
+    head_of(&front)
 }

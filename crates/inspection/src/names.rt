@@ -1,5 +1,6 @@
-//! Files' names in sentences.
+//! Files' names in sentences, and why the system didn't do what it was asked for.
 use std::fmt;
+use std::io::ErrorKind;
 
 /// A file's name as it can be shown: control characters can't move the cursor, nor end the line.
 #[derive(Clone, Copy)]
@@ -31,5 +32,25 @@ pub fn input_name(name: &str) -> Name<'_> {
         } else {
             name
         },
+    }
+}
+
+/// A call of the system on a file that has failed.
+#[derive(Drop)]
+pub struct Failure {
+    /// The file's name, as it is told.
+    pub name: String,
+    pub kind: ErrorKind,
+    /// The system's own words.
+    pub reason: String,
+}
+
+impl fmt::Display for Failure {
+    fn fmt<W: fmt::Write>(&self, f: &mut fmt::Formatter<W>) -> fmt::Result {
+        let name = Name {
+            text: self.name.as_str(),
+        };
+        let reason = self.reason.as_str();
+        write!(f, "{name}: {reason}")
     }
 }

@@ -1,10 +1,11 @@
 //! A session looked at again.
-use crate::files::is_regular;
+use crate::files::open_again;
 use alc::read;
 use partition::Fti;
+use reception::Identity;
 use session::{Device, FrameFault, read_next};
 use std::alloc::Global;
-use std::fs;
+use std::fs::File;
 use std::io::BufReader;
 use std::rt::Files;
 
@@ -24,23 +25,36 @@ pub struct Break {
 /// A carrier of an object, and what it says.
 #[derive(Clone, Copy)]
 pub struct Carrier {
-    pub place: u64,
+    pub place: usize,
     pub fti: Fti,
 }
 
+/// How many blocks are short, of how many, and how many symbols most lacks of them.
+#[derive(Clone, Copy)]
+pub struct Shortage {
+    pub short: u32,
+    pub blocks: u32,
+    pub most: usize,
+}
+
 // A session from its first frame on, where a file that can be read again has its name.
-fn open_session<R: Files>(rt: &R, alloc: Global, name: &str) -> Option<Device<BufReader<R::File>>> {
-    if !is_regular(rt, name) {
-        return None;
-    }
-    let file = fs::open(rt, name).ok()?;
+fn open_session<R: Files<File = File>>(
+    rt: &R,
+    alloc: Global,
+    name: &str,
+) -> Option<Device<BufReader<File>>> {
+    let file = open_again(rt, name)?;
     let buffered = BufReader::with_capacity(alloc, BUFFER_SIZE, file).ok()?;
     Some(Device::new(buffered))
 }
 
 /// How many datagrams a session has, and where its frames stop, if they aren't whole. `None` where
 /// it can't be read again.
-pub fn walk<R: Files>(rt: &R, alloc: Global, name: &str) -> Option<(u64, Option<Break>)> {
+pub fn walk<R: Files<File = File>>(
+    rt: &R,
+    alloc: Global,
+    name: &str,
+) -> Option<(u64, Option<Break>)> {
     let mut reader = open_session(rt, alloc, name)?;
     let mut byte = 0u64;
     for place in 0..u64::MAX {
@@ -53,16 +67,30 @@ pub fn walk<R: Files>(rt: &R, alloc: Global, name: &str) -> Option<(u64, Option<
     None
 }
 
-/// The first carrier of the identity from a place on.
-pub fn carrier_from<R: Files>(
+/// The datagram at a place.
+pub fn datagram_at<R: Files<File = File>>(
     rt: &R,
     alloc: Global,
     name: &str,
-    identity: (u64, u128),
-    first: u64,
+    place: usize,
+) -> Option<Vec<u8>> {
+    let mut reader = open_session(rt, alloc, name)?;
+    for _ in 0..place {
+        read_next(alloc, &mut reader).ok()?;
+    }
+    read_next(alloc, &mut reader).ok()?
+}
+
+/// The first carrier of the identity from a place on.
+pub fn carrier_from<R: Files<File = File>>(
+    rt: &R,
+    alloc: Global,
+    name: &str,
+    identity: Identity,
+    first: usize,
 ) -> Option<Carrier> {
     let mut reader = open_session(rt, alloc, name)?;
-    for place in 0..u64::MAX {
+    for place in 0..usize::MAX {
         let Ok(Some(datagram)) = read_next(alloc, &mut reader) else {
             return None;
         };
@@ -72,7 +100,7 @@ pub fn carrier_from<R: Files>(
         let Ok(packet) = read(datagram.as_slice()) else {
             continue;
         };
-        if (packet.tsi, packet.toi) != identity {
+        if (packet.tsi, packet.toi) != (identity.tsi, identity.toi) {
             continue;
         }
         if let Some(fti) = packet.fti {
@@ -80,4 +108,74 @@ pub fn carrier_from<R: Files>(
         }
     }
     None
+}
+
+// The block and the ESI of the symbol of each of the identity's packets, in ascending order.
+fn symbols_of<R: Files<File = File>>(
+    rt: &R,
+    alloc: Global,
+    name: &str,
+    identity: Identity,
+) -> Option<Vec<(u32, u8)>> {
+    let mut reader = open_session(rt, alloc, name)?;
+    let mut symbols: Vec<(u32, u8)> = Vec::new(alloc);
+    for _ in 0..usize::MAX {
+        let Ok(Some(datagram)) = read_next(alloc, &mut reader) else {
+            break;
+        };
+        let Ok(packet) = read(datagram.as_slice()) else {
+            continue;
+        };
+        if (packet.tsi, packet.toi) == (identity.tsi, identity.toi) {
+            symbols.push((packet.sbn, packet.esi)).ok()?;
+        }
+    }
+    symbols.sort_unstable();
+    Some(symbols)
+}
+
+// How many different symbols of a block stand in front, and those behind them.
+fn split_block(symbols: &[(u32, u8)], block: u32) -> (usize, &[(u32, u8)]) {
+    let mut different = 0usize;
+    let mut last = None;
+    for place in 0..symbols.len() {
+        let (sbn, esi) = symbols[place];
+        if sbn > block {
+            return (different, &symbols[place..]);
+        }
+        if last != Some(esi) {
+            different = different.saturating_add(1);
+        }
+        last = Some(esi);
+    }
+    (different, &[])
+}
+
+/// How short the identity's packets leave an object with this FTI.
+pub fn count_short<R: Files<File = File>>(
+    rt: &R,
+    alloc: Global,
+    name: &str,
+    identity: Identity,
+    fti: &Fti,
+) -> Option<Shortage> {
+    let symbols = symbols_of(rt, alloc, name, identity)?;
+    let mut rest = symbols.as_slice();
+    let blocks = fti.block_count();
+    let mut short = 0u32;
+    let mut most = 0;
+    for block in 0..blocks {
+        let (have, behind) = split_block(rest, block);
+        rest = behind;
+        let lack = fti.k(block).saturating_sub(have);
+        if lack > 0 {
+            short = short.saturating_add(1);
+            most = most.max(lack);
+        }
+    }
+    Some(Shortage {
+        short,
+        blocks,
+        most,
+    })
 }

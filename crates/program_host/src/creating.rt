@@ -1,4 +1,5 @@
 //! Outputs as they are created.
+use crate::failures::{Failures, Noted};
 use crate::output::Written;
 use crate::parts::{Part, create_beside};
 use crate::program::BUFFER_SIZE;
@@ -97,13 +98,24 @@ pub(crate) struct Wanted<'a, R> {
     pub(crate) alloc: Global,
     pub(crate) name: String,
     pub(crate) no_clobber: bool,
+    pub(crate) failures: &'a Failures,
 }
 
-impl<R: Files<File = File>> Wanted<'_, R> {
-    /// The file, to which nothing was written.
-    pub(crate) fn create(&self) -> io::Result<Written> {
+impl<'a, R: Files<File = File>> Wanted<'a, R> {
+    /// The file, to which nothing was written. Why there is none is kept.
+    pub(crate) fn create(&self) -> io::Result<Written<'a>> {
+        let created = self.try_create();
+        if let Err(error) = &created {
+            self.failures.note(self.name.as_str(), error);
+        }
+        created
+    }
+
+    fn try_create(&self) -> io::Result<Written<'a>> {
+        let name = self.name.as_str().to_string(self.alloc)?;
         let (file, part) = create(self.rt, self.alloc, self.name.as_str(), self.no_clobber)?;
-        match BufWriter::with_capacity(self.alloc, BUFFER_SIZE, file) {
+        let noted = Noted::new(file, name, self.failures);
+        match BufWriter::with_capacity(self.alloc, BUFFER_SIZE, noted) {
             Ok(writer) => Ok(Written::new(writer, part)),
             Err(error) => {
                 if let Some(part) = &part {

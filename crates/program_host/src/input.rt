@@ -1,6 +1,7 @@
 //! The program's input files.
 ghost use Rattle.std.specs.Prelude.{None, false};
 
+use crate::failures::Noted;
 use crate::state::FileState;
 use progress::Counted;
 use session::{Device, Failed, Read};
@@ -11,7 +12,7 @@ use streams::ReadAt;
 /// A file that is read, from the front on through a buffer, or at any offset.
 #[derive(Drop)]
 pub struct HostInput<'a, R> {
-    device: Device<BufReader<Counted<'a, R>>>,
+    device: Device<BufReader<Noted<'a, Counted<'a, R>>>>,
     /// How the file was when it was opened, where that is known.
     opened: Option<FileState>,
 }
@@ -19,7 +20,7 @@ pub struct HostInput<'a, R> {
 impl<'a, R: Clock + Eprint> HostInput<'a, R> {
     /// A file of which nothing was read, and how it is.
     pub(crate) fn new(
-        reader: BufReader<Counted<'a, R>>,
+        reader: BufReader<Noted<'a, Counted<'a, R>>>,
         opened: Option<FileState>,
     ) -> HostInput<'a, R> {
         HostInput {
@@ -39,7 +40,8 @@ impl<'a, R: Clock + Eprint> HostInput<'a, R> {
 
     /// Whether the file is as it was when it was opened, as far as that can be seen.
     pub(crate) fn is_unchanged(&self) -> bool {
-        !FileState::has_changed(self.opened, self.device.get_ref().get_ref().file())
+        let noted = self.device.get_ref().get_ref();
+        !FileState::has_changed(self.opened, noted.inner().file())
     }
 }
 
@@ -64,7 +66,8 @@ impl<R: Clock + Eprint> ReadAt for HostInput<'_, R> {
     ghost reliable = { λ _. false };
 
     fn read_at(&self, offset: u64, buf: &mut [u8]) -> Result<usize, Failed> {
-        match self.device.get_ref().get_ref().read_at(offset, buf) {
+        let noted = self.device.get_ref().get_ref();
+        match noted.see(noted.inner().read_at(offset, buf)) {
             Ok(n) if offset.checked_add(n as u64).is_some() => Ok(n),
             _ => Err(Failed),
         }

@@ -5,19 +5,19 @@
 //! - `parts`: what becomes a file: it is written beside its name, and takes that once it is whole;
 //!   `rights`: who may read and write it then.
 //! - `state`: by what it is seen that a file has changed.
-//! - `last`: what was printed last, for the sentence on its cause.
+//! - `failures`: the system's own error where a call of it fails, with the file's name.
 #![tactic(auto)]
 
 mod creating;
+mod failures;
 mod input;
-mod last;
 mod output;
 mod parts;
 mod program;
 mod rights;
 mod state;
 
+pub use failures::{Failures, Noted};
 pub use input::HostInput;
-pub use last::LastLine;
 pub use output::HostOutput;
 pub use program::{BUFFER_SIZE, ProgramHost};

@@ -2,11 +2,12 @@
 ghost use Rattle.std.specs.Prelude.{◌≡◌, ◌<◌, ◌≤◌, None, IfOk, OnOk, OnErr, length, true, false};
 
 use crate::creating::Wanted;
+use crate::failures::Noted;
 use crate::parts::Part;
 use crate::state::FileState;
 use session::{Device, Failed, Write};
 use std::fs::File;
-use std::io::{BufWriter, Seek, SeekFrom};
+use std::io::{self, BufWriter, Seek, SeekFrom};
 use std::os::unix::fs::FileExt;
 use std::rt::Files;
 use streams::WriteAt;
@@ -14,16 +15,16 @@ use streams::WriteAt;
 /// A file that is written: beside its name until it is kept, or, where a device or a pipe has that,
 /// straight.
 #[derive(Drop)]
-pub(crate) struct Written {
-    device: Device<BufWriter<File>>,
+pub(crate) struct Written<'a> {
+    device: Device<BufWriter<Noted<'a, File>>>,
     part: Option<Part>,
     // How the last call with an offset or a length left the file.
     left: Option<FileState>,
 }
 
-impl Written {
+impl<'a> Written<'a> {
     /// A file of which nothing was written, and where it goes if not straight to its name.
-    pub(crate) fn new(writer: BufWriter<File>, part: Option<Part>) -> Written {
+    pub(crate) fn new(writer: BufWriter<Noted<'a, File>>, part: Option<Part>) -> Written<'a> {
         Written {
             device: Device::new(writer),
             part,
@@ -38,12 +39,16 @@ impl Written {
             part,
             left: _,
         } = self;
-        let (file, _) = device.into_inner().into_parts();
-        (file, part)
+        let (noted, _) = device.into_inner().into_parts();
+        (noted.into_inner(), part)
+    }
+
+    fn noted(&self) -> &Noted<'a, File> {
+        self.device.get_ref().get_ref()
     }
 
     fn file(&self) -> &File {
-        self.device.get_ref().get_ref()
+        self.noted().inner()
     }
 
     fn append(&mut self, bytes: &[u8]) -> Result<usize, Failed>
@@ -59,6 +64,8 @@ impl Written {
     fn flush_unchanged(&mut self) -> Result<(), Failed> {
         self.device.flush()?;
         if FileState::has_changed(self.left, self.file()) {
+            let changed = io::Error::other("another program has changed it");
+            let _ = self.noted().see::<()>(Err(changed));
             return Err(Failed);
         }
         Ok(())
@@ -68,7 +75,8 @@ impl Written {
     fn resize(&mut self, len: u64) -> Result<(), Failed> {
         self.flush_unchanged()?;
         let mut file = self.file();
-        if file.set_len(len).is_err() || file.seek(SeekFrom::End(0)).is_err() {
+        let set = self.noted().see(file.set_len(len));
+        if set.is_err() || self.noted().see(file.seek(SeekFrom::End(0))).is_err() {
             return Err(Failed);
         }
         self.left = FileState::of(self.file());
@@ -80,7 +88,7 @@ impl Written {
         ensures some { IfOk result (λ n. 0 < length bytes.now → 0 < n) }
     {
         self.flush_unchanged()?;
-        match self.file().write_at(bytes, offset) {
+        match self.noted().see(self.file().write_at(bytes, offset)) {
             Ok(n) if n > 0 || bytes.is_empty() => {
                 self.left = FileState::of(self.file());
                 Ok(n)
@@ -93,7 +101,7 @@ impl Written {
         ensures bound { IfOk result (λ n. n ≤ length buf.old) }
     {
         self.flush_unchanged()?;
-        match self.file().read_at(buf, offset) {
+        match self.noted().see(self.file().read_at(buf, offset)) {
             Ok(n) => Ok(n),
             Err(_) => Err(Failed),
         }
@@ -103,7 +111,7 @@ impl Written {
 /// What is to be a file. Where it couldn't be created, that is tried once more when the first bytes
 /// come, and then they go nowhere.
 pub struct HostOutput<'a, R> {
-    written: Option<Written>,
+    written: Option<Written<'a>>,
     /// What is to be created yet.
     wanted: Option<Wanted<'a, R>>,
     // Whether a call has failed. From then on each does.
@@ -112,7 +120,7 @@ pub struct HostOutput<'a, R> {
 
 impl<'a, R> HostOutput<'a, R> {
     /// One that was created.
-    pub(crate) fn of(written: Written) -> HostOutput<'a, R> {
+    pub(crate) fn of(written: Written<'a>) -> HostOutput<'a, R> {
         HostOutput {
             written: Some(written),
             wanted: None,
@@ -130,7 +138,7 @@ impl<'a, R> HostOutput<'a, R> {
     }
 
     /// The file, if there is one.
-    pub(crate) fn into_written(self) -> Option<Written> {
+    pub(crate) fn into_written(self) -> Option<Written<'a>> {
         let HostOutput {
             written,
             wanted: _,

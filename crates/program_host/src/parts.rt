@@ -35,8 +35,8 @@ pub(crate) struct Part {
 }
 
 impl Part {
-    /// Gives the part its target's place; whether that went well. Until then it stays locked.
-    pub(crate) fn keep<R: Files>(&self, rt: &R, file: &File) -> bool {
+    /// Gives the part its target's place. Until then it stays locked.
+    pub(crate) fn keep<R: Files>(&self, rt: &R, file: &File) -> io::Result<()> {
         self.rights.give(file);
         if self.no_clobber {
             self.link(rt)
@@ -45,20 +45,23 @@ impl Part {
         }
     }
 
-    fn rename<R: Files>(&self, rt: &R) -> bool {
-        fs::rename(rt, self.name.as_str(), self.target.as_str()).is_ok()
+    fn rename<R: Files>(&self, rt: &R) -> io::Result<()> {
+        fs::rename(rt, self.name.as_str(), self.target.as_str())
     }
 
     // Takes the name unless a file has got it meanwhile: a link is refused then, a new name isn't.
-    fn link<R: Files>(&self, rt: &R) -> bool {
+    fn link<R: Files>(&self, rt: &R) -> io::Result<()> {
         match fs::hard_link(rt, self.name.as_str(), self.target.as_str()) {
             Ok(()) => {
                 self.remove(rt);
-                true
+                Ok(())
             }
-            Err(error) if error.kind() == ErrorKind::AlreadyExists => false,
+            Err(error) if error.kind() == ErrorKind::AlreadyExists => Err(error),
             // Not each file system has links.
-            Err(_) => { fs::symlink_metadata(rt, self.target.as_str()).is_err() && self.rename(rt) }
+            Err(error) => match fs::symlink_metadata(rt, self.target.as_str()) {
+                Ok(_) => Err(error),
+                Err(_) => self.rename(rt),
+            },
         }
     }
 

@@ -5,20 +5,20 @@ ghost use Rattle.std.specs.Io.Buffered.{writer_buffer, writer_contents};
 ghost use Rattle.host.specs.Worlds.{untold};
 
 use crate::creating::{Wanted, is_lack_of_memory, is_straight};
+use crate::failures::{Failures, Noted};
 use crate::input::HostInput;
-use crate::last::LastLine;
 use crate::output::{HostOutput, Written};
 use crate::parts::Part;
 use crate::state::FileState;
 use host::{FileFault, Host, KeepFault};
-use inspection::Name;
+use inspection::{Name, STANDARD_INPUT, input_name};
 use progress::{Counted, Progress};
 use request::Output;
 use session::{Device, Failed, write_all};
 use std::alloc::{AllocError, Global};
 use std::cell::Cell;
 use std::fs::File;
-use std::io::{BufReader, BufWriter, ErrorKind};
+use std::io::{BufReader, BufWriter};
 use std::rt::Files;
 use std::time::Clock;
 use std::{fs, io};
@@ -26,8 +26,8 @@ use std::{fs, io};
 /// How many bytes stand between a file, or the output, and its reader or writer.
 pub const BUFFER_SIZE: usize = 65536;
 
-/// The name of an input that is standard input.
-const STANDARD_INPUT: &str = "-";
+/// Why standard input isn't opened a second time.
+const TAKEN: &str = "it can be read once, and - is the name of more than one input";
 
 /// Where standard input is opened.
 const INPUT_DEVICE: &str = "/dev/stdin";
@@ -39,20 +39,22 @@ pub struct ProgramHost<'a, R, O: std::io::Write + Drop> {
     rt: &'a R,
     alloc: Global,
     out: Device<BufWriter<O>>,
-    last: LastLine,
     took_input: Cell<bool>,
     /// Whether sentences are wanted.
     is_telling: bool,
     progress: &'a Progress,
+    failures: &'a Failures,
 }
 
 impl<'a, R, O: std::io::Write + Drop> ProgramHost<'a, R, O> {
-    /// The files, through the host's runtime, this output for lines, and what is told of inputs.
+    /// The files, through the host's runtime, this output for lines, what is told of inputs, and
+    /// where it is kept that calls have failed.
     pub fn new(
         rt: &'a R,
         alloc: Global,
         out: Device<BufWriter<O>>,
         progress: &'a Progress,
+        failures: &'a Failures,
     ) -> ProgramHost<'a, R, O>
         ensures { result.rt.now ≡ rt.now }
     {
@@ -60,18 +62,11 @@ impl<'a, R, O: std::io::Write + Drop> ProgramHost<'a, R, O> {
             rt,
             alloc,
             out,
-            last: LastLine::new(),
             took_input: Cell::new(false),
             is_telling: false,
             progress,
+            failures,
         }
-    }
-
-    /// What was printed last.
-    pub fn last(&self) -> &LastLine
-        ensures { result.now ≡ self.now.last }
-    {
-        &self.last
     }
 
     /// Passes on all that was printed. `Failed` comes exactly where the output has failed, now or
@@ -94,7 +89,7 @@ impl<'a, R: Files<File = File>, O: std::io::Write + Drop> ProgramHost<'a, R, O> 
             return fs::open(self.rt, name);
         }
         if self.took_input.replace(true) {
-            return Err(io::Error::from(ErrorKind::ResourceBusy));
+            return Err(io::Error::other(TAKEN));
         }
         fs::open(self.rt, INPUT_DEVICE)
     }
@@ -105,14 +100,29 @@ impl<'a, R: Files<File = File>, O: std::io::Write + Drop> ProgramHost<'a, R, O> 
             alloc: self.alloc,
             name: name.to_string(self.alloc)?,
             no_clobber,
+            failures: self.failures,
         })
     }
 
     // Closes a file that isn't kept, and takes it away.
-    fn discard(&self, written: Written) {
+    fn discard(&self, written: Written<'_>) {
         let (file, part) = written.into_parts();
         self.remove(&part);
         drop(file);
+    }
+
+    // Gives what was written the place of the file of this name; whether that went well.
+    fn put_in_place(&self, name: &str, file: &File, part: &Option<Part>) -> bool {
+        let Some(part) = part else {
+            return true;
+        };
+        match part.keep(self.rt, file) {
+            Ok(()) => true,
+            Err(error) => {
+                self.failures.note(name, &error);
+                false
+            }
+        }
     }
 
     fn remove(&self, part: &Option<Part>) {
@@ -134,21 +144,22 @@ impl<R: Files<File = File> + Clock + Eprint, O: std::io::Write + Drop> ProgramHo
         self.progress.wipe(self.rt);
     }
 
-    /// Whether a file of this name can't be created, as far as a try tells, which leaves nothing. A
-    /// pipe or a device isn't tried, as that could take something from it.
-    pub fn refuses(&self, output: &Output<'_>) -> bool {
+    /// Says so where the output of what will come can't be created, as far as a try tells, which
+    /// leaves nothing. A pipe or a device isn't tried, as that could take something from it.
+    pub fn forewarn(&self, output: &Output<'_>) {
         if !output.no_clobber && is_straight(self.rt, output.name) {
-            return false;
+            return;
         }
         let Ok(wanted) = self.wanted(output.name, output.no_clobber) else {
-            return false;
+            return;
         };
         match wanted.create() {
-            Ok(written) => {
-                self.discard(written);
-                false
+            Ok(written) => self.discard(written),
+            Err(error) if is_lack_of_memory(&error) => {}
+            Err(error) => {
+                let shown = Name { text: output.name };
+                let _ = eprintln!(self.rt; "alcrs: what comes can't be kept: {shown}: {error}");
             }
-            Err(error) => !is_lack_of_memory(&error),
         }
     }
 
@@ -182,12 +193,21 @@ impl<'a, R: Files<File = File> + Clock + Eprint, O: std::io::Write + Drop> Host
     ghost world = { λ host. untold host.out.failed };
 
     fn open_file(&self, name: &str) -> Result<HostInput<'a, R>, FileFault> {
-        let Ok(file) = self.open_input(name) else {
-            return Err(FileFault::Io);
+        let told = input_name(name).text;
+        let file = match self.open_input(name) {
+            Ok(file) => file,
+            Err(error) => {
+                self.failures.note(told, &error);
+                return Err(FileFault::Io);
+            }
+        };
+        let Ok(told) = told.to_string(self.alloc) else {
+            return Err(FileFault::NoMemory);
         };
         let opened = FileState::of(&file);
         let counted = Counted::new(self.rt, self.alloc, self.progress, name, file);
-        match BufReader::with_capacity(self.alloc, BUFFER_SIZE, counted) {
+        let noted = Noted::new(counted, told, self.failures);
+        match BufReader::with_capacity(self.alloc, BUFFER_SIZE, noted) {
             Ok(reader) => Ok(HostInput::new(reader, opened)),
             Err(_) => Err(FileFault::NoMemory),
         }
@@ -220,7 +240,7 @@ impl<'a, R: Files<File = File> + Clock + Eprint, O: std::io::Write + Drop> Host
     // The file is closed last, as its lock keeps other runs from its name.
     fn keep_file(
         &mut self,
-        _name: &str,
+        name: &str,
         _no_clobber: bool,
         mut output: HostOutput<'a, R>,
     ) -> Result<(), KeepFault> {
@@ -229,10 +249,7 @@ impl<'a, R: Files<File = File> + Clock + Eprint, O: std::io::Write + Drop> Host
             return Err(KeepFault::Uncreated);
         };
         let (file, part) = written.into_parts();
-        let is_kept = match &part {
-            Some(part) => flushed.is_ok() && part.keep(self.rt, &file),
-            None => flushed.is_ok(),
-        };
+        let is_kept = flushed.is_ok() && self.put_in_place(name, &file, &part);
         if !is_kept {
             self.remove(&part);
         }
@@ -249,7 +266,6 @@ impl<'a, R: Files<File = File> + Clock + Eprint, O: std::io::Write + Drop> Host
 
     fn print(&mut self, bytes: &[u8]) -> Result<(), Failed> {
         self.progress.make_way(self.rt);
-        self.last.note(bytes);
         write_all(&mut self.out, bytes)
     }
 

@@ -207,7 +207,7 @@ module _ {W : Type 0} {w : Ghosts W} (r : FollowRequest) (old : World) where
 
   pub begun : (opened : Option (List ℕ)) → Session r old (λ bytes. opened ≡ Some bytes) → (receiver : FileReceiver W w) → Stands receiver [] → IsSoundIn receiver.receiving.store
       → receiver.receiving.identity ≡ r.identity → has_output receiver ≡ false
-      → let start : Followed W w = record { receiver = receiver; count = 0; said = true } in IsFollowed r old old start (IsShort r opened start)
+      → let start : Followed W w = record { receiver = receiver; count = 0; said = true; contradictions = 0 } in IsFollowed r old old start (IsShort r opened start)
   begun opened held receiver stands sound identity none = record {
     sound = sound;
     identity = identity;
@@ -252,9 +252,9 @@ module _ {W : Type 0} {w : Ghosts W} (r : FollowRequest) (old : World) where
         pub prepared : (output : Option (List ℕ)) → IsBlank mid output → new.created ≡ one_more mid.created
             → (receiver : FileReceiver W w) → receiver.receiving ≡ f.receiver.receiving → has_output receiver ≡ true
             → ((ds : List (List ℕ)) → Stands f.receiver ds → IsSome output → Stands receiver ds)
-            → let next : Followed W w = record { receiver = receiver; count = f.count; said = f.said } in IsFollowed r old new next (IsShort r before next)
+            → let next : Followed W w = record { receiver = receiver; count = f.count; said = f.said; contradictions = f.contradictions } in IsFollowed r old new next (IsShort r before next)
         prepared output blank created receiver same has stands =
-            let next : Followed W w = record { receiver = receiver; count = f.count; said = f.said } in
+            let next : Followed W w = record { receiver = receiver; count = f.count; said = f.said; contradictions = f.contradictions } in
             followed_as mid f (IsShort r before f) is new next (IsShort r before next) files silent (subst (λ (x : Receiving). IsSoundIn x.store) (sym same) is.sound) (ap (λ (x : Receiving). x.identity) same)
             (subst (λ (b : Bool). IsCreatedFor r old new b) (sym has)
             (created ∙ ap one_more none_created, may)) refl
@@ -269,17 +269,17 @@ module _ {W : Type 0} {w : Ghosts W} (r : FollowRequest) (old : World) where
 
     module _ (n : ℕ) (next : n ≡ f.count + 1) (receiver : FileReceiver W w) (sound : IsSoundIn receiver.receiving.store)
         (same : receiver.receiving.identity ≡ f.receiver.receiving.identity) (has : has_output receiver ≡ has_output f.receiver) where
-      abbrev fed : Bool → Followed W w
-      fed said = record { receiver = receiver; count = n; said = said }
+      abbrev fed : Bool → ℕ → Followed W w
+      fed said contradictions = record { receiver = receiver; count = n; said = said; contradictions = contradictions }
 
       silent_self : IsSilent mid mid
       silent_self = record { printed = refl; failed = refl; fallible = refl }
 
-      fed_as : (Q : List ℕ → List ℕ → Type 0) → ((bytes : List ℕ) → IsShort r before f bytes is.lines → Q bytes is.lines) → IsFollowed r old mid (fed f.said) Q
-      fed_as Q g = followed_as mid f (IsShort r before f) is mid (fed f.said) Q refl silent_self sound same
+      fed_as : (Q : List ℕ → List ℕ → Type 0) → ((bytes : List ℕ) → IsShort r before f bytes is.lines → Q bytes is.lines) → IsFollowed r old mid (fed f.said f.contradictions) Q
+      fed_as Q g = followed_as mid f (IsShort r before f) is mid (fed f.said f.contradictions) Q refl silent_self sound same
           (created_still r old mid mid refl (has_output f.receiver) (has_output receiver) has is.created) refl (holds_then old.files r.session.now _ (λ bytes. Q bytes is.lines) g is.heard)
 
-      pub stays_some : IsFollowed r old mid (fed f.said) (HasHeardSome r before)
+      pub stays_some : IsFollowed r old mid (fed f.said f.contradictions) (HasHeardSome r before)
       stays_some = fed_as (HasHeardSome r before) (λ bytes s. (f.count, s.0, s.3))
 
       module _ (accepted : (ds : List (List ℕ)) → Stands f.receiver ds → Stands receiver (with_datagram ds d)) (against : (ds : List (List ℕ)) → Stands f.receiver ds
@@ -290,8 +290,8 @@ module _ {W : Type 0} {w : Ghosts W} (r : FollowRequest) (old : World) where
             (subst (λ (who : Identity). (fault : FeedFault) → ¬ IsNotTaken who taken d fault) is.identity (against taken stands))
 
         more : ((ds : List (List ℕ)) → Stands f.receiver ds → ¬ LeaveNoneShort f.receiver.receiving.identity (with_datagram ds d))
-            → IsFollowed r old mid (fed f.said) (IsShort r after (fed f.said))
-        more short_still = fed_as (IsShort r after (fed f.said)) (λ bytes (taken, stands, lacks, heard). (
+            → IsFollowed r old mid (fed f.said f.contradictions) (IsShort r after (fed f.said f.contradictions))
+        more short_still = fed_as (IsShort r after (fed f.said f.contradictions)) (λ bytes (taken, stands, lacks, heard). (
           with_datagram taken d,
           accepted taken stands,
           subst (λ (who : Identity). ¬ LeaveNoneShort who (with_datagram taken d)) is.identity (short_still taken stands),
@@ -299,8 +299,8 @@ module _ {W : Type 0} {w : Ghosts W} (r : FollowRequest) (old : World) where
         ))
 
         full : ((ds : List (List ℕ)) → Stands f.receiver ds → LeaveNoneShort f.receiver.receiving.identity (with_datagram ds d))
-            → IsFollowed r old mid (fed f.said) (IsFull r (fed f.said))
-        full all = fed_as (IsFull r (fed f.said)) (λ bytes (taken, stands, lacks, heard). (
+            → IsFollowed r old mid (fed f.said f.contradictions) (IsFull r (fed f.said f.contradictions))
+        full all = fed_as (IsFull r (fed f.said f.contradictions)) (λ bytes (taken, stands, lacks, heard). (
           after,
           with_datagram taken d,
           accepted taken stands,
@@ -309,14 +309,14 @@ module _ {W : Type 0} {w : Ghosts W} (r : FollowRequest) (old : World) where
         ))
 
         pub heard_one : (progress : Progress) → (progress ≡ Complete → has_output receiver ≡ true)
-            → ((ds : List (List ℕ)) → Stands f.receiver ds → Tells progress f.receiver.receiving.identity (with_datagram ds d)) → IsHearing r old mid after (fed f.said) (Ok progress)
+            → ((ds : List (List ℕ)) → Stands f.receiver ds → Tells progress f.receiver.receiving.identity (with_datagram ds d)) → IsHearing r old mid after (fed f.said f.contradictions) (Ok progress)
         heard_one More output tells = more tells
         heard_one Complete output tells = (output refl, full tells)
 
       pub refused : (fault : FeedFault) → ((ds : List (List ℕ)) → Stands f.receiver ds → Stands receiver ds) → ((ds : List (List ℕ)) → Stands f.receiver ds
-          → IsNotTaken f.receiver.receiving.identity ds d fault) → (new : World) (said : Bool) → AreSaid mid new (refusal_line f.count fault) said → (said ≡ true → f.said ≡ true) → KeepsFiles mid new
-          → IsFollowed r old new (fed said) (IsShort r after (fed said))
-      refused fault stands why new said line first kept = record {
+          → IsNotTaken f.receiver.receiving.identity ds d fault) → (new : World) (said : Bool) (contradictions : ℕ) → AreSaid mid new (refusal_line f.count fault) said → (said ≡ true → f.said ≡ true) → KeepsFiles mid new
+          → IsFollowed r old new (fed said contradictions) (IsShort r after (fed said contradictions))
+      refused fault stands why new said contradictions line first kept = record {
         sound = sound;
         identity = same ∙ is.identity;
         files = kept.files ∙ is.files;

@@ -23,6 +23,7 @@ use Rattle.commands.specs.Commands.{shown_status, AreReadAs, TellsDatagrams, tol
 use Rattle.commands.specs.Outcomes.{IsDone, IsBecause, IsStopped}
 use Rattle.commands.specs.Doing.{HasStopped, IsUndone}
 use Rattle.receive_commands.specs.Showing.{Shows, ShowsAll, IsCutBehind, IsUnshown}
+use Rattle.commands.specs.declared.done.Ended.{Ended}
 use Rattle.commands.specs.declared.fault.Fault.{Fault}
 use Rattle.commands.specs.declared.fault.Fault.TheVariants.{Open, File, Memory, Frame, Certificate, Fti, Send, NoPlace}
 use Rattle.commands.specs.declared.fault.Stop.{Stop}
@@ -167,7 +168,7 @@ module _ (old : World) (r : ShowRequest) (each : r.summary ≡ false) (opened : 
     unshown (ByFault (NoPlace n)) why fails = absurd why
     unshown Unprinted why fails = record { failed = why; done = inl (files.files, files.created) }
 
-    pub is_unshown : (result : Result ℕ Stop) (sound : Bool) → IfErr result (IsUnshown opened old new)
+    pub is_unshown : (result : Result Ended Stop) (sound : Bool) → IfErr result (IsUnshown opened old new)
         → IfErr result (λ (stop : Stop). stop ≡ ByFault (Frame frame_fault.Io) → sound ≡ false) → (sound ≡ false → MayFail old) → IfErr result (IsUndone old new (Show r))
     is_unshown (Ok status) sound why unsound fails = tt
     is_unshown (Err stop) sound why unsound fails = unshown stop why (λ is. fails (unsound is))

@@ -18,7 +18,8 @@ ghost use Rattle.commands.specs.Lines.{line_of, answer_text};
 use crate::held::read_frames;
 use block_recovery::DecodeFault;
 use commands::{
-    Done, Fault, Text, Told, Unwritten, commit, if_unchanged, open, put_packet_fault, see_unchanged,
+    Done, Fault, Text, Told, Unwritten, Why, commit, if_unchanged, open, put_packet_fault,
+    see_unchanged,
 };
 use decoder::{Answer, WriteFault};
 use file_decoder::{FileFault, FileSymbols, index_file};
@@ -164,7 +165,21 @@ pub(crate) fn told_of(alloc: Global, answer: &Answer) -> Result<Done, AllocError
     Ok(Done {
         told: Told::Lines(answer_line(alloc, answer)?),
         status: status_of(answer),
+        why: why_of(answer),
     })
+}
+
+fn why_of(answer: &Answer) -> Why {
+    match answer {
+        Answer::Object(_) => Why::Plain,
+        Answer::Fault(fault) => Why::NoObject(*fault),
+        Answer::Empty => Why::Empty,
+        Answer::Missing { block, have, need } => Why::Missing {
+            block: *block,
+            have: *have,
+            need: *need,
+        },
+    }
 }
 
 fn status_of(answer: &Answer) -> u8

@@ -25,7 +25,8 @@ ghost use Rattle.commands.specs.declared.output.Unwritten.TheVariants.{Writing};
 use crate::decode::told_of;
 use block_recovery::DecodeFault;
 use commands::{
-    Fault, Stop, Text, Unwritten, commit, next_datagram, open, print_count, put_packet_fault,
+    Ended, Fault, Stop, Text, Unwritten, Why, commit, next_datagram, open, print_count,
+    put_packet_fault,
 };
 use decoder::Answer;
 use host::Host;
@@ -42,6 +43,8 @@ struct Followed<W: WriteAt> {
     count: usize,
     /// Whether the lines of those that were refused were printed.
     said: bool,
+    /// How many of these contradict those that were taken.
+    contradictions: u64,
 }
 
 /// How a session ends.
@@ -62,12 +65,11 @@ pub fn follow<'a, H: Host>(
     alloc: Global,
     host: &mut H,
     request: &FollowRequest<'a>,
-) -> Result<u8, Stop<'a>>
-    ensures ok { IfOk result
-        (IsDone (H.world host.old) (H.world host.new) (Follow request.now)) }
+) -> Result<Ended, Stop<'a>>
+    ensures ok { IfOk result (λ ended.
+        IsDone (H.world host.old) (H.world host.new) (Follow request.now) ended.status) }
     ensures fault { IfErr result
         (IsUndone (H.world host.old) (H.world host.new) (Follow request.now)) }
-    ensures small { IfOk result (λ status. status ≤ 3) }
 {
     let mut frames = open(host, request.session)?;
     let (followed, ending) = listen(alloc, host, request, &mut frames);
@@ -104,6 +106,7 @@ fn listen<'a, R: Read, H: Host>(
         receiver: FileReceiver::new(request.identity),
         count: 0,
         said: true,
+        contradictions: 0,
     };
     loop {
         let datagram = match next_datagram(alloc, frames) {
@@ -166,10 +169,21 @@ fn hear<'a, H: Host>(
         Err(refusal) => match tell_refusal(alloc, host, place, refusal, followed.said) {
             Ok(said) => {
                 followed.said = said;
+                followed.contradictions = more_contradictions(followed.contradictions, refusal);
                 (followed, Ok(Progress::More))
             }
             Err(AllocError) => (followed, Err(Unwritten::Fault(Fault::Memory))),
         },
+    }
+}
+
+// How many datagrams contradict those that were taken, once one more was refused for this.
+fn more_contradictions(contradictions: u64, refusal: FeedFault) -> u64 {
+    match refusal {
+        FeedFault::Fault(DecodeFault::Clash(_) | DecodeFault::NotCode(_)) => {
+            contradictions.saturating_add(1)
+        }
+        _ => contradictions,
     }
 }
 
@@ -272,19 +286,19 @@ fn deliver<'a, H: Host>(
     host: &mut H,
     request: &FollowRequest<'a>,
     followed: Followed<H::Output>,
-) -> Result<u8, Stop<'a>>
+) -> Result<Ended, Stop<'a>>
     requires output { has_output followed.receiver ≡ true }
     requires said { followed.said ≡ false → (H.world host.old).failed ≡ true }
     ensures ok { (old : WorldValue) → IsReceived request.now old (H.world host.old) followed
-        → IfOk result (IsDone old (H.world host.new) (Follow request.now)) }
+        → IfOk result (λ ended. IsDone old (H.world host.new) (Follow request.now) ended.status) }
     ensures fault { (old : WorldValue) → IsReceived request.now old (H.world host.old) followed
         → IfErr result (IsUndone old (H.world host.new) (Follow request.now)) }
-    ensures small { IfOk result (λ status. status ≤ 3) }
 {
     let Followed {
         receiver,
         count,
         said,
+        contradictions,
     } = followed;
     let said = tell_complete(host, count, said);
     let length = match keep_object(host, request, receiver) {
@@ -295,7 +309,10 @@ fn deliver<'a, H: Host>(
         return Err(Stop::Unprinted);
     }
     print_count(host, "object", length, " bytes")?;
-    Ok(0)
+    Ok(Ended {
+        status: 0,
+        why: Why::Contradicted(contradictions),
+    })
 }
 
 // Prints after how many datagrams the object is there, unless printing has failed. Answers whether
@@ -347,19 +364,19 @@ fn tell_lack<'a, H: Host>(
     host: &mut H,
     followed: Followed<H::Output>,
     answer: &Answer,
-) -> Result<u8, Stop<'a>>
+) -> Result<Ended, Stop<'a>>
     ensures ok { (r : RequestValue) (old : WorldValue)
         → IsLacking r old (H.world host.old) followed answer.now
-        → IfOk result (IsDone old (H.world host.new) (Follow r)) }
+        → IfOk result (λ ended. IsDone old (H.world host.new) (Follow r) ended.status) }
     ensures fault { (r : RequestValue) (old : WorldValue)
         → IsLacking r old (H.world host.old) followed answer.now
         → IfErr result (IsUndone old (H.world host.new) (Follow r)) }
-    ensures small { IfOk result (λ status. status ≤ 3) }
 {
     let Followed {
         receiver,
         count: _,
         said,
+        contradictions: _,
     } = followed;
     if let Some(output) = receiver.into_output() {
         host.give_up(output);
@@ -369,7 +386,10 @@ fn tell_lack<'a, H: Host>(
     }
     let done = told_of(alloc, answer)?;
     done.told.print(host)?;
-    Ok(done.status)
+    Ok(Ended {
+        status: done.status,
+        why: done.why,
+    })
 }
 
 // Gives the output up, if there is one, and answers why following stops.
@@ -388,6 +408,7 @@ fn give_up<'a, H: Host>(
         receiver,
         count: _,
         said,
+        contradictions: _,
     } = followed;
     stop_by(drop_output(host, request, receiver, unwritten), said)
 }

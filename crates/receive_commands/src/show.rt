@@ -14,7 +14,8 @@ ghost use Rattle.commands.specs.declared.fault.Stop.TheVariants.{ByFault};
 use crate::totals::summarize;
 use alc::{Packet, PacketFault, read};
 use commands::{
-    Fault, Stop, Text, finish, next_datagram, open, pass_frames, put_packet_fault, see_unchanged,
+    Ended, Fault, Stop, Text, Why, finish, next_datagram, open, pass_frames, put_packet_fault,
+    see_unchanged,
 };
 use host::Host;
 use partition::Fti;
@@ -23,17 +24,16 @@ use session::{Failed, FrameFault, Read};
 use std::alloc::{AllocError, Global};
 
 /// Prints a line for each datagram; or, where a summary is asked for, the session's numbers at its
-/// end. Answers the status: 0 where all are packets.
+/// end. The status is 0 where all are packets.
 pub fn show<'a, H: Host>(
     alloc: Global,
     host: &mut H,
     request: &ShowRequest<'a>,
-) -> Result<u8, Stop<'a>>
-    ensures ok { IfOk result
-        (IsDone (H.world host.old) (H.world host.new) (Show request.now)) }
+) -> Result<Ended, Stop<'a>>
+    ensures ok { IfOk result (λ ended.
+        IsDone (H.world host.old) (H.world host.new) (Show request.now) ended.status) }
     ensures fault { IfErr result
         (IsUndone (H.world host.old) (H.world host.new) (Show request.now)) }
-    ensures small { IfOk result (λ status. status ≤ 3) }
 {
     if request.summary {
         let done = summarize(alloc, host, request);
@@ -49,13 +49,12 @@ fn show_each<'a, H: Host>(
     alloc: Global,
     host: &mut H,
     request: &ShowRequest<'a>,
-) -> Result<u8, Stop<'a>>
+) -> Result<Ended, Stop<'a>>
     requires { request.now.summary ≡ false }
-    ensures ok { IfOk result
-        (IsDone (H.world host.old) (H.world host.new) (Show request.now)) }
+    ensures ok { IfOk result (λ ended.
+        IsDone (H.world host.old) (H.world host.new) (Show request.now) ended.status) }
     ensures fault { IfErr result
         (IsUndone (H.world host.old) (H.world host.new) (Show request.now)) }
-    ensures small { IfOk result (λ status. status ≤ 3) }
 {
     let mut frames = open(host, request.session)?;
     // What has no length comes as it is sent.
@@ -67,28 +66,29 @@ fn show_each<'a, H: Host>(
     print_datagrams(alloc, &mut frames, host, is_live)
 }
 
-// Prints a line for each datagram that a reader has left, up to its end or a fault. Answers the
-// status.
+// Prints a line for each datagram that a reader has left, up to its end or a fault.
 fn print_datagrams<'a, R: Read, H: Host>(
     alloc: Global,
     frames: &mut R,
     host: &mut H,
     is_live: bool,
-) -> Result<u8, Stop<'a>>
-    ensures shown { IfOk result
-        (ShowsAll (R.remaining frames.old) (H.world host.old) (H.world host.new)) }
+) -> Result<Ended, Stop<'a>>
+    ensures shown { IfOk result (λ ended. ShowsAll (R.remaining frames.old)
+        (H.world host.old) (H.world host.new) ended.status) }
     ensures fault { IfErr result
         (IsUnshown (R.remaining frames.old) (H.world host.old) (H.world host.new)) }
     ensures unsound { IfErr result (λ stop.
         stop ≡ ByFault (Frame FrameFault.Io) → R.sound frames.old ≡ false) }
     ensures files { KeepsFiles (H.world host.old) (H.world host.new) }
-    ensures small { IfOk result (λ status. status ≤ 3) }
 {
     let mut status = 0;
     let mut place = 0usize;
     loop {
         let Some(datagram) = next_datagram(alloc, frames)? else {
-            return Ok(status);
+            return Ok(Ended {
+                status,
+                why: strays_of(status),
+            });
         };
         let Some(next) = place.checked_add(1) else {
             return Err(Stop::ByFault(Fault::Memory));
@@ -98,6 +98,11 @@ fn print_datagrams<'a, R: Read, H: Host>(
         }
         place = next;
     }
+}
+
+/// Why the command ends with this status, which is 0 where all datagrams are packets.
+pub(crate) fn strays_of(status: u8) -> Why {
+    if status == 0 { Why::Plain } else { Why::Strays }
 }
 
 // Prints the line of the datagram at a place. Answers its status: 0 of a packet, else 1.

@@ -13,7 +13,7 @@ ghost use Rattle.commands.specs.Totals.{AreTotals};
 ghost use Rattle.receive_commands.specs.Totalling.{AreAllCounted, IsUncounted};
 ghost use Rattle.commands.specs.declared.fault.Fault.TheVariants.{Frame};
 
-use crate::show::put_fti;
+use crate::show::{put_fti, strays_of};
 use commands::{Done, Fault, Text, Told, next_datagram, open, put_packet_fault};
 use host::Host;
 use inventory::{FaultCount, FtiCount, Part, Summary};
@@ -37,9 +37,11 @@ pub(crate) fn summarize<'a, H: Host>(
     let mut frames = open(host, request.session)?;
     let summary = read_all(alloc, &mut frames)?;
     let text = totals_lines(alloc, &summary)?;
+    let status = status_of(&summary);
     Ok(Done {
         told: Told::Lines(text),
-        status: status_of(&summary),
+        status,
+        why: strays_of(status),
     })
 }
 

@@ -1,12 +1,14 @@
 //! The command line of alcrs: its grammar, its help, and the request that its words make.
 //!
 //! ```
-//! let Ok(line) = command_line(alloc, words) else {
-//!     return;
-//! };
+//! let line = command_line(alloc, &views);
+//! if let Ok(line) = &line {
+//!     begin(&rt, line, &mut host);
+//! }
 //! ```
 //!
 //! - `requests`: the commands with their values.
+//! - `names`: the files and the identity that a request names.
 //! - `usage`: why words are no request.
 //! - `places`: the places that words tell.
 //! - `grammar`: the commands, their arguments and their help, for clap.
@@ -19,6 +21,7 @@ mod grammar;
 mod help;
 mod line;
 mod matched;
+mod names;
 mod places;
 mod requests;
 mod usage;

@@ -4,16 +4,18 @@ ghost use Rattle.request.specs.declared.requests.Request.TheVariants.{Salvage};
 ghost use Rattle.commands.specs.Doing.{HasMade, HasStopped};
 ghost use Rattle.send_commands.specs.Salvaging.{HasSalvaged, IsBroken, IsUncopied, IsUnreadFor};
 
-use commands::{Done, Fault, Told, Unwritten, commit, open};
+use commands::{Done, Fault, Told, Unwritten, Why, commit, open};
 use host::Host;
 use request::SalvageRequest;
 use session::{FrameFault, Read, Write, read_next, write_one};
 use std::alloc::Global;
 
-/// How many frames were copied, or why they weren't, and the status: 0 where nothing follows them.
+/// How many frames were copied, or why they weren't; the status, 0 where nothing follows them; and
+/// what does.
 struct Salvaged<'a> {
     written: Result<u64, Unwritten<'a>>,
     status: u8,
+    why: Why,
     ghost small: { status ≤ 1 },
 }
 
@@ -30,12 +32,17 @@ pub fn salvage<'a, H: Host>(
 {
     let mut input = open(host, request.session)?;
     let mut file = host.create_file(request.output.name, request.output.no_clobber)?;
-    let Salvaged { written, status } = copy_front(alloc, &mut input, &mut file);
+    let Salvaged {
+        written,
+        status,
+        why,
+    } = copy_front(alloc, &mut input, &mut file);
     let failure = Fault::Frame(FrameFault::Io);
     let count = commit(host, &request.output, file, written, failure)?;
     Ok(Done {
         told: Told::Count("kept", count, " datagrams"),
         status,
+        why,
     })
 }
 
@@ -54,6 +61,7 @@ fn copy_front<'a, R: Read, W: Write>(alloc: Global, reader: &mut R, writer: &mut
                 return Salvaged {
                     written: Ok(count),
                     status: 0,
+                    why: Why::Plain,
                 };
             }
             Err(fault) => return stopped(count, fault),
@@ -65,6 +73,7 @@ fn copy_front<'a, R: Read, W: Write>(alloc: Global, reader: &mut R, writer: &mut
             return Salvaged {
                 written: Err(Unwritten::Writing),
                 status: 1,
+                why: Why::Plain,
             };
         };
         count = more;
@@ -82,5 +91,9 @@ fn stopped<'a>(count: u64, fault: FrameFault) -> Salvaged<'a>
         FrameFault::NoMemory => Err(Unwritten::Fault(Fault::Memory)),
         _ => Ok(count),
     };
-    Salvaged { written, status: 1 }
+    Salvaged {
+        written,
+        status: 1,
+        why: Why::Cut(fault),
+    }
 }

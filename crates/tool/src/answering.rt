@@ -2,11 +2,12 @@
 ghost use Rattle.std.specs.Prelude.{◌≡◌, ◌⊎◌, true, codes, OnOk, OnErr};
 ghost use Rattle.std.specs.Io.KnownBytes.{Appends};
 ghost use Rattle.host.specs.World.{KeepsFiles};
-ghost use Rattle.tool.specs.Answering.{IsAnswer, Explains, IsToldRefused, errors_of};
+ghost use Rattle.tool.specs.Answering.{IsAnswer, IsOutcomeOf, Explains, IsToldRefused, errors_of};
 
-use crate::running::{MEMORY_LINE, run, tell_memory};
+use crate::running::{MEMORY_LINE, Settled, run, tell_memory};
+use commands::Why;
 use host::Host;
-use request::{Usage, command_line};
+use request::{CommandLine, Usage, command_line};
 use session::{Failed, Write, write_all};
 use std::alloc::{AllocError, Global};
 
@@ -26,15 +27,33 @@ pub fn answer<'a, H: Host, E: Write>(
     ensures { IsAnswer words.now (H.world host.old) (H.world host.new)
         (errors_of (E.contents err.old) (E.contents err.new) (E.failed err.new)) result }
 {
-    match command_line(alloc, words) {
+    let line = command_line(alloc, words);
+    carry_out(alloc, &line, host, err).status
+}
+
+/// Does what a command line asks for that was read, as `answer` does, and also answers why the
+/// status is what it is. Of a line that is refused the why is plain.
+pub fn carry_out<'a, H: Host, E: Write>(
+    alloc: Global,
+    line: &Result<CommandLine<'a>, Usage<'a>>,
+    host: &mut H,
+    err: &mut E,
+) -> Settled<'a>
+    ensures { IsOutcomeOf line.now (H.world host.old) (H.world host.new)
+        (errors_of (E.contents err.old) (E.contents err.new) (E.failed err.new)) result.status }
+{
+    match line {
         Ok(line) => run(alloc, host, &line.request),
-        Err(usage) => explain(alloc, usage, host, err),
+        Err(usage) => Settled {
+            status: explain(alloc, usage, host, err),
+            why: Ok(Why::Plain),
+        },
     }
 }
 
 // Tells why a command line makes no request, and answers the status.
-fn explain<H: Host, E: Write>(alloc: Global, usage: Usage<'_>, host: &mut H, err: &mut E) -> u8
-    ensures { Explains usage.entry (H.world host.old) (H.world host.new)
+fn explain<H: Host, E: Write>(alloc: Global, usage: &Usage<'_>, host: &mut H, err: &mut E) -> u8
+    ensures { Explains usage.now (H.world host.old) (H.world host.new)
         (errors_of (E.contents err.old) (E.contents err.new) (E.failed err.new)) result }
 {
     match usage {

@@ -11,5 +11,5 @@
 mod answering;
 mod running;
 
-pub use answering::{answer, refuse, refuse_memory, status_after};
-pub use running::run;
+pub use answering::{answer, carry_out, refuse, refuse_memory, status_after};
+pub use running::{Settled, run};

@@ -9,7 +9,7 @@ ghost use Rattle.commands.specs.Outcomes.{IsRun, IsDone};
 
 use check_commands::check::check;
 use check_commands::twin::twin;
-use commands::{Fault, Stop, fault_line, finish};
+use commands::{Ended, Fault, Stop, Why, fault_line, finish};
 use host::Host;
 use receive_commands::decode::decode;
 use receive_commands::follow::follow;
@@ -26,11 +26,18 @@ use std::alloc::Global;
 /// What is printed where there is no memory.
 pub(crate) const MEMORY_LINE: &[u8] = b"fault memory\n";
 
-/// Does the command, prints its lines, and answers the status: 0 done or yes, 1 no or a fault, 3
+/// The status of a request that was run, and why it has that. Nothing is promised of the why.
+#[derive(Clone, Copy)]
+pub struct Settled<'a> {
+    pub status: u8,
+    pub why: Result<Why, Stop<'a>>,
+}
+
+/// Does the command, and prints its lines. The status is 0 for done or yes, 1 for no or a fault, 3
 /// where decoding has too little. If lines can't be printed it is 1.
-pub fn run<H: Host>(alloc: Global, host: &mut H, request: &Request<'_>) -> u8
-    ensures run { IsRun (H.world host.old) (H.world host.new) request.now result }
-    ensures status { result ≤ 3 }
+pub fn run<'a, H: Host>(alloc: Global, host: &mut H, request: &Request<'a>) -> Settled<'a>
+    ensures run { IsRun (H.world host.old) (H.world host.new) request.now result.status }
+    ensures status { result.status ≤ 3 }
 {
     let done = match request {
         Request::Show(request) => {
@@ -55,21 +62,30 @@ pub fn run<H: Host>(alloc: Global, host: &mut H, request: &Request<'_>) -> u8
     settle(alloc, host, outcome)
 }
 
-// Tells what stopped a command, if something has, and answers the status.
-fn settle<H: Host>(alloc: Global, host: &mut H, outcome: Result<u8, Stop<'_>>) -> u8
+// Tells what stopped a command, if something has.
+fn settle<'a, H: Host>(alloc: Global, host: &mut H, outcome: Result<Ended, Stop<'a>>) -> Settled<'a>
     ensures run { (old : World) (r : RequestValue)
-        → IfOk outcome.entry (IsDone old (H.world host.old) r)
+        → IfOk outcome.entry (λ ended. IsDone old (H.world host.old) r ended.status)
         → IfErr outcome.entry (IsUndone old (H.world host.old) r)
-        → IsRun old (H.world host.new) r result }
-    ensures status { IfOk outcome.entry (λ status. status ≤ 3) → result ≤ 3 }
+        → IsRun old (H.world host.new) r result.status }
+    ensures status { result.status ≤ 3 }
 {
     match outcome {
-        Ok(status) => status,
+        Ok(Ended { status, why }) => Settled {
+            status,
+            why: Ok(why),
+        },
         Err(Stop::ByFault(fault)) => {
             tell(alloc, host, fault);
-            1
+            Settled {
+                status: 1,
+                why: Err(Stop::ByFault(fault)),
+            }
         }
-        Err(Stop::Unprinted) => 1,
+        Err(Stop::Unprinted) => Settled {
+            status: 1,
+            why: Err(Stop::Unprinted),
+        },
     }
 }
 

@@ -58,7 +58,7 @@ returns-in-Ok-tell_refusal g c = λ old before after is one short.
     refused_by f.receiver.receiving.identity ds d refusal c.in-Ok-tell_refusal.ensures.some kept
     (λ e. (c.feed.ensures.full ds stands).0 (fed ∙ ap Err e))
     (λ e. ((c.feed.ensures.early ds stands).0 (fed ∙ ap Err e)).1) (λ fault e. rw e at faulty))
-    (g.H.Host.world c.tell_refusal.new.host) c.in-Ok-tell_refusal.said c.in-Ok-tell_refusal.ensures.said c.in-Ok-tell_refusal.ensures.before c.tell_refusal.ensures.files
+    (g.H.Host.world c.tell_refusal.new.host) c.in-Ok-tell_refusal.said c.more_contradictions.result c.in-Ok-tell_refusal.ensures.said c.in-Ok-tell_refusal.ensures.before c.tell_refusal.ensures.files
 
 pub returns-in-Err-tell_refusal : goal.returns-in-Err-tell_refusal
 returns-in-Err-tell_refusal g c = λ old before after is one short.
@@ -67,7 +67,7 @@ returns-in-Err-tell_refusal g c = λ old before after is one short.
     let step = c.in-Some.ensures in
     let next : c.in-Some.read ≡ f.count + 1 = omega (arith, step) in (
       before,
-      subst (λ (world : World). IsFollowed c.args.request.now old world (record { receiver = c.feed.new.self; count = c.in-Some.read; said = f.said }) (HasHeardSome c.args.request.now before))
+      subst (λ (world : World). IsFollowed c.args.request.now old world (record { receiver = c.feed.new.self; count = c.in-Some.read; said = f.said; contradictions = f.contradictions }) (HasHeardSome c.args.request.now before))
           (sym c.in-Err-tell_refusal.ensures.none)
           (stays_some c.args.request.now old (g.H.Host.world c.prepare-followed.new.host) before after c.args.datagram.now f ready one short c.in-Some.read next c.feed.new.self c.feed.ensures.sound
           c.feed.ensures.identity c.feed.ensures.output),

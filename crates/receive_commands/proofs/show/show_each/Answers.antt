@@ -17,8 +17,8 @@ pub returns-clause-ok : goal.returns-clause-ok
 returns-clause-ok g c =
     let input = c.in_ok-frames.ensures.input in
     IfOk-weaker c.print_datagrams.result _ _
-    (show_done (g.H.Host.world c.args.host.now) c.args.request.now c.requires (g.H.Input.Read.remaining c.in_ok-frames.frames) input.bytes (g.H.Host.world c.print_datagrams.new.host)
-    c.print_datagrams.ensures.files)
+    (λ ended. show_done (g.H.Host.world c.args.host.now) c.args.request.now c.requires (g.H.Input.Read.remaining c.in_ok-frames.frames) input.bytes (g.H.Host.world c.print_datagrams.new.host)
+    c.print_datagrams.ensures.files ended.status)
     c.print_datagrams.ensures.shown
 
 pub returns-in_err-frames-clause-fault : goal.returns-in_err-frames-clause-fault

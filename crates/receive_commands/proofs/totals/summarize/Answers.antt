@@ -27,4 +27,4 @@ pub returns-clause-ok : goal.returns-clause-ok
 returns-clause-ok g c =
     let input = c.in_ok-frames.ensures.input in
     made (g.H.Host.world c.args.host.now) c.args.request.now c.requires (g.H.Input.Read.remaining c.in_ok-frames.frames) input.bytes c.in_ok-summary.summary c.in_ok-text.text _
-    c.in_ok-summary.ensures.ok c.in_ok-text.ensures c.status_of.ensures.value refl
+    c.in_ok-summary.ensures.ok c.in_ok-text.ensures c.status_of-status.ensures.value refl
