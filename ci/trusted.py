@@ -40,8 +40,9 @@ WIDTH = 100
 
 # Relations that public calls only hand on to one another: what they say inside isn't needed to
 # trust the calls.
-HANDED_ON = {"Rattle.cert.specs.Fed", "Rattle.receiver.specs.Stands",
-             "Rattle.file_decoder.specs.PlacesOf", "Rattle.inventory.specs.Tells"}
+HANDED_ON = {"Rattle.cert.specs.Fed", "Rattle.file_check.specs.Answers",
+             "Rattle.receiver.specs.Stands", "Rattle.file_decoder.specs.PlacesOf",
+             "Rattle.inventory.specs.Tells"}
 
 # The crates that offer what they have to those above them in the library alone: no promise to
 # callers.
