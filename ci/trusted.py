@@ -116,7 +116,7 @@ PROMISES = [
     ], ["headline", "verdict"]),
     ("reading", "`check_from`: a check of what a reader gives", [
         ("cert", "check_from", []),
-        ("cert", "check_view_from", []),
+        ("cert", "feed_all", []),
         ("certificate", "view", []),
         ("certificate", "into_view", []),
     ], ["headline", "bearing", "verdict", "losses"]),
@@ -125,7 +125,7 @@ PROMISES = [
         ("cert", "feed", []),
         ("cert", "verdict", []),
     ], ["headline", "bearing", "verdict", "losses"]),
-    ("picture", "`survey_from`: a check with what a picture shows", [("cert", "survey_from", [])],
+    ("picture", "`Checker::survey`: what a picture shows", [("cert", "survey", [])],
      ["headline", "verdict", "losses", "reading"]),
     (
         "twins",

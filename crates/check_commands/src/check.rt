@@ -1,6 +1,7 @@
 //! The command `check`.
-ghost use Rattle.std.specs.Prelude.{◌≡◌, ◌≤◌, ◌++◌, ℕ, List, decimal, IfOk, IfErr, OnOk};
+ghost use Rattle.std.specs.Prelude.{◌≡◌, ◌≤◌, ◌++◌, ℕ, List, false, decimal, IfOk, IfErr, OnOk};
 ghost use Rattle.certificate.specs.Certificate.{IsCertificate};
+ghost use Rattle.cert.specs.FromReader.{IsCheckFault, IsCheckedFrom, IsRefusedBehind};
 ghost use Rattle.cert.specs.Report.{OnYes};
 ghost use Rattle.cert.specs.declared.verdict.Verdict.TheVariants.{No};
 ghost use Rattle.request.specs.declared.requests.Request.TheVariants.{Check};
@@ -18,7 +19,7 @@ ghost use Rattle.commands.specs.Lines.{reason_text, verdict_text as text_of_verd
 use crate::drawing::{Drawn, picture_of};
 use crate::faults::check_fault;
 use crate::summary::summary_lines;
-use cert::{Reason, Report, Survey, Verdict, check_from, survey_from};
+use cert::{CheckFault, Checker, Reason, Report, Survey, Verdict};
 use certificate::Certificate;
 use commands::{
     Done, Fault, Text, Told, certificate_in, object_in, open, put_packet_fault, read_certificate,
@@ -27,8 +28,9 @@ use commands::{
 use file_check::{Checked, Files, check_files};
 use host::Host;
 use request::{CheckRequest, Output};
-use session::Read;
+use session::{FrameFault, Read};
 use std::alloc::{AllocError, Global};
+use std::borrow::CowSlice;
 
 /// What is told of a check, and the picture, where one is asked for and the answer is yes.
 #[derive(Drop)]
@@ -170,6 +172,37 @@ pub(crate) fn see_files<'a, H: Host>(
     Ok(())
 }
 
+// The verdict on the frames that a reader has left, and its survey, where a picture is asked for.
+fn verdict_from<R: Read>(
+    alloc: Global,
+    frames: &mut R,
+    object: &[u8],
+    certificate: &Certificate,
+    request: &CheckRequest<'_>,
+) -> Result<(Verdict, Option<Survey>), CheckFault>
+    ensures verdict { IfOk result (λ found. IsCheckedFrom request.now.identity
+        (R.remaining frames.old) (R.remaining frames.new) object.now certificate.now found.0) }
+    ensures surveyed { IfOk result (λ found.
+        IsSurveyed request.now.picture found.0 found.1) }
+    ensures fault { IfErr result (IsCheckFault (λ fault. IsRefusedBehind request.now.identity fault
+        (R.remaining frames.old) (R.remaining frames.new) (R.failed frames.new)
+        object.now certificate.now)) }
+    ensures unsound { IfErr result (λ fault.
+        fault ≡ CheckFault.Frame FrameFault.Io → R.sound frames.old ≡ false) }
+{
+    let object = CowSlice::Borrowed(object);
+    let mut checker = match Checker::new(alloc, object, certificate.view(), request.identity)? {
+        Ok(checker) => checker,
+        Err(reason) => return Ok((Verdict::No(reason), None)),
+    };
+    checker.feed_all(alloc, frames)?;
+    if request.picture.is_some() {
+        Ok(checker.survey(alloc)?)
+    } else {
+        Ok((checker.verdict(alloc)?, None))
+    }
+}
+
 // What is told of the frames that a reader has left.
 fn answer_of<'a, R: Read>(
     alloc: Global,
@@ -184,14 +217,7 @@ fn answer_of<'a, R: Read>(
     ensures fault { IfErr result (IsNotChecked request.now.identity (R.sound frames.old)
         (R.remaining frames.old) object.now certificate.now) }
 {
-    let checked = if request.picture.is_some() {
-        survey_from(alloc, frames, object, certificate, request.identity)
-    } else {
-        match check_from(alloc, frames, object, certificate, request.identity) {
-            Ok(verdict) => Ok((verdict, None)),
-            Err(fault) => Err(fault),
-        }
-    };
+    let checked = verdict_from(alloc, frames, object, certificate, request);
     match checked {
         Ok((verdict, survey)) => {
             let length = object.len() as u64;

@@ -2,7 +2,7 @@ use Rattle.std.proofs.Common.{◌∙◌, sym}
 use Rattle.losses.specs.Groups.{groups_of}
 use Rattle.cert.specs.Tallying.{by_certificate, tallied_of}
 use Rattle.cert.proofs.DatagramSteps.{refuses_fault, packet_in_range, symbol_long, block_there, passes, passes_over, refuses_symbol}
-use Rattle.cert.proofs.walk.Walk.step.Goals as goal
+use Rattle.cert.proofs.checker.Checker.step.Goals as goal
 
 pub first_wrong_column_of-requires-clause-range : goal.first_wrong_column_of-requires-clause-range
 first_wrong_column_of-requires-clause-range c =
