@@ -40,8 +40,9 @@ WIDTH = 100
 
 # Relations that public calls only hand on to one another: what they say inside isn't needed to
 # trust the calls.
-HANDED_ON = {"Rattle.cert.specs.Fed", "Rattle.receiver.specs.Stands",
-             "Rattle.file_decoder.specs.PlacesOf", "Rattle.inventory.specs.Tells"}
+HANDED_ON = {"Rattle.cert.specs.Fed", "Rattle.file_check.specs.Answers",
+             "Rattle.receiver.specs.Stands", "Rattle.file_decoder.specs.PlacesOf",
+             "Rattle.inventory.specs.Tells"}
 
 # The crates that offer what they have to those above them in the library alone: no promise to
 # callers.
@@ -115,7 +116,7 @@ PROMISES = [
     ], ["headline", "verdict"]),
     ("reading", "`check_from`: a check of what a reader gives", [
         ("cert", "check_from", []),
-        ("cert", "check_view_from", []),
+        ("cert", "feed_all", []),
         ("certificate", "view", []),
         ("certificate", "into_view", []),
     ], ["headline", "bearing", "verdict", "losses"]),
@@ -124,7 +125,7 @@ PROMISES = [
         ("cert", "feed", []),
         ("cert", "verdict", []),
     ], ["headline", "bearing", "verdict", "losses"]),
-    ("picture", "`survey_from`: a check with what a picture shows", [("cert", "survey_from", [])],
+    ("picture", "`Checker::survey`: what a picture shows", [("cert", "survey", [])],
      ["headline", "verdict", "losses", "reading"]),
     (
         "twins",

@@ -20,11 +20,12 @@ use crate::told::{
     AlcrsBlock, AlcrsFault, AlcrsReport, certificate_fault, frame_fault, put_blocks, put_kill,
     reason_fault, report_numbers,
 };
-use cert::{CheckFault, Verdict, check_view_from};
+use cert::{CheckFault, Checker, Verdict};
 use certificate::{CertFault, CertificateView};
 use reception::Identity;
 use session::{FrameFault, Pieces};
 use std::alloc::Global;
+use std::borrow::CowSlice;
 
 // The verdict on the datagrams in the bytes, which are read from the front.
 fn check_bytes(
@@ -41,7 +42,14 @@ fn check_bytes(
         (Some session.now) (Some left) false object.now certificate.entry)) }
 {
     let mut frames = Pieces::new(session, usize::MAX);
-    check_view_from(alloc, &mut frames, object, certificate, identity)
+    match Checker::new(alloc, CowSlice::Borrowed(object), certificate, identity)? {
+        Ok(checker) => {
+            let mut checker = checker;
+            checker.feed_all(alloc, &mut frames)?;
+            Ok(checker.verdict(alloc)?)
+        }
+        Err(reason) => Ok(Verdict::No(reason)),
+    }
 }
 
 fn verdict_of(

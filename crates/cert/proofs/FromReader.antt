@@ -1,5 +1,5 @@
 -- What the answers to datagrams, one after the other, say of the verdict.
-use Rattle.std.proofs.Common.{◌≡◌, ℕ, zero, suc, Bool, true, List, [], ◌∷◌, ◌++◌, Option, Some, None, refl, sym, ap, ◌∙◌, append_assoc, arith}
+use Rattle.std.proofs.Common.{drop, ◌≡◌, ℕ, zero, suc, Bool, true, List, [], ◌∷◌, ◌++◌, Option, Some, None, refl, sym, ap, ◌∙◌, append_assoc, arith}
 use Rattle.std.specs.Io.KnownBytes.{Consumes, IsAtEnd}
 use Rattle.session.specs.Frames.{frame, frames, AreDatagrams, IsReadFault}
 use Rattle.session.specs.declared.frame.FrameFault.{FrameFault}
@@ -36,7 +36,12 @@ datagrams_append [] ys h k i = k i
 datagrams_append (x ∷ xs) ys h k zero = h 0
 datagrams_append (x ∷ xs) ys h k (suc i) = datagrams_append xs ys (λ j. h (suc j)) k i
 
-nothing_consumed : (a : Option (List ℕ)) → Consumes a a []
+pub datagrams_drop : (n : ℕ) (ds : List (List ℕ)) → AreDatagrams ds → AreDatagrams (drop n ds)
+datagrams_drop zero ds h = h
+datagrams_drop (suc n) [] h = no_datagrams
+datagrams_drop (suc n) (d ∷ ds) h = datagrams_drop n ds (λ i. h (suc i))
+
+pub nothing_consumed : (a : Option (List ℕ)) → Consumes a a []
 nothing_consumed None = tt
 nothing_consumed (Some xs) = refl
 
@@ -89,7 +94,7 @@ module _ (who : Identity) (z : Certificate) (object : List ℕ) (name : is_for w
     what_follows r h = λ rest more.
         verdict_no (ds ++ rest) r (datagrams_append ds rest each more) (against_place who z (readings_of (ds ++ rest)) r (reason_stays who z ds rest r h))
 
-    after_place : (r : Reason) → IsNotPassed who ds z r → IsNoAfter who r ds left object z
+    pub after_place : (r : Reason) → IsNotPassed who ds z r → IsNoAfter who r ds left object z
     after_place OtherCertificate h = absurd (is_at_place (reception_to who z (readings_of ds)).wrong OtherCertificate h.0)
     after_place ObjectLength h = absurd (is_at_place (reception_to who z (readings_of ds)).wrong ObjectLength h.0)
     after_place (NotObject b c i) h = absurd (is_at_place (reception_to who z (readings_of ds)).wrong (NotObject b c i) h.0)

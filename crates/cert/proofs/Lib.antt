@@ -12,7 +12,6 @@ pub mod Losing
 pub mod Adding
 pub mod TwinObject
 pub mod TwinParts
-pub mod Few
 pub mod Short
 pub mod HeldEsis
 pub mod Columns

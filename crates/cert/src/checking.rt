@@ -1,46 +1,48 @@
-//! The check.
-ghost use Rattle.std.specs.Prelude.{IfOk};
+//! The check of a session, and a twin where it finds a block short.
+ghost use Rattle.std.specs.Prelude.{IfOk, IfErr};
 ghost use Rattle.reception.specs.Headline.{DecodesWhereEnough, TwinWhereShort, TellsElse};
-ghost use Rattle.certificate.specs.Certificate.{IsCertificate};
 ghost use Rattle.cert.specs.Bearing.{BearsLosses};
+ghost use Rattle.cert.specs.Fed.{IsFed};
 ghost use Rattle.cert.specs.Report.{IsReport, OnYes};
+ghost use Rattle.cert.specs.Twins.{IsShortIn, IsTwinOfSession};
 ghost use Rattle.cert.specs.Verdict.{IsVerdict};
 
-use crate::verdict::Verdict;
-use crate::walk::Walk;
+use crate::checker::Checker;
+use crate::verdict::{Reason, Verdict};
 use certificate::Certificate;
 use reception::Identity;
 use session::Session;
 use std::alloc::{AllocError, Global};
 use std::borrow::CowSlice;
 
-// The verdict, without what a yes promises.
-fn verdict_of(
+// A check that was fed the session's datagrams, or the first reason against the certificate's name,
+// the object or one of them.
+fn fed<'a>(
     alloc: Global,
     session: &Session,
-    object: &[u8],
-    certificate: &Certificate,
+    object: &'a [u8],
+    certificate: &'a Certificate,
     identity: Identity,
-) -> Result<Verdict, AllocError>
-    ensures verdict { IfOk result (IsVerdict identity session.now object.now certificate.now) }
-    ensures report { IfOk result (λ v.
-        OnYes v (IsReport identity session.now certificate.now.fti)) }
-    ensures certificate { IsCertificate certificate.now }
+) -> Result<Result<Checker<'a>, Reason>, AllocError>
+    ensures fed { IfOk result (λ r. IfOk r (λ checker.
+        IsFed checker identity object.entry.now certificate.entry.now session.now)) }
+    ensures no { IfOk result (λ r. IfErr r (λ reason. IsVerdict identity session.now
+        object.entry.now certificate.entry.now (Verdict.No reason))) }
 {
-    // With this comes what is true of each certificate.
-    certificate.fti();
     let count = session.len();
     let object = CowSlice::Borrowed(object);
-    let mut walk = match Walk::new(alloc, object, certificate.view(), identity)? {
-        Ok(walk) => walk,
-        Err(reason) => return Ok(Verdict::No(reason)),
+    let mut checker = match Checker::new(alloc, object, certificate.view(), identity)? {
+        Ok(checker) => checker,
+        Err(reason) => return Ok(Err(reason)),
     };
     for place in 0..count {
-        if let Some(reason) = walk.step(session.get(place))? {
-            return Ok(Verdict::No(reason));
+        match checker.feed(session.get(place)) {
+            Ok(None) => {}
+            Ok(Some(reason)) => return Ok(Err(reason)),
+            Err(_) => return Err(AllocError),
         }
     }
-    walk.verdict(alloc)
+    Ok(Ok(checker))
 }
 
 /// Whether the certificate is one of the identity's packets in the session, and of the object, and
@@ -79,5 +81,30 @@ pub fn check(
     ensures losses { IfOk result (λ v.
         OnYes v (BearsLosses identity session.now object.now)) }
 {
-    verdict_of(alloc, session, object, certificate, identity)
+    match fed(alloc, session, object, certificate, identity)? {
+        Ok(checker) => checker.verdict(alloc),
+        Err(reason) => Ok(Verdict::No(reason)),
+    }
+}
+
+/// A twin of the object where the check of the identity says `Thin` of this block, as it needs:
+/// another object of the certificate's FTI that agrees with all of the identity's packets in the
+/// session. Want of memory is the only error.
+pub fn session_twin(
+    alloc: Global,
+    session: &Session,
+    object: &[u8],
+    certificate: &Certificate,
+    block: u32,
+    identity: Identity,
+) -> Result<Vec<u8>, AllocError>
+    requires { IsShortIn identity session.now object.now certificate.now block }
+    ensures { IfOk result (λ other.
+        IsTwinOfSession identity certificate.now.fti block session.now object.now other.items) }
+{
+    match fed(alloc, session, object, certificate, identity)? {
+        Ok(checker) => checker.twin(alloc, block),
+        // The reason would be another one.
+        Err(_) => Err(AllocError),
+    }
 }

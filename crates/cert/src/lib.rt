@@ -10,15 +10,15 @@
 //! `verdict` has what a check answers, `fault` why it wasn't done, `specs/Verdict` which answer
 //! is right, `specs/Report` what a yes tells.
 //!
-//! A check asks for one identity's packets and is a walk over datagrams, one step each (`walk`).
-//! [`check`] goes over a session (`checking`), [`check_from`] over what a reader gives
-//! (`from_reader`, `specs/FromReader`), and a [`Checker`] is fed one datagram at a time (`checker`,
-//! `specs/Feeding`). [`survey_from`] is the second with what a picture of a yes shows (`surveying`,
-//! `specs/Surveying`). The certificate's FTI is known from the start, so a packet is judged whether
-//! a carrier came before it or not; that none came is told in the end.
+//! A check asks for one identity's packets, and is a [`Checker`] that is fed one datagram at a time
+//! (`checker`, `specs/Feeding`), or all that a reader gives. It also tells what a picture of a yes
+//! shows (`specs/Surveying`). [`check`] feeds it a session (`checking`), and [`check_from`] what a
+//! reader gives (`from_reader`, `specs/FromReader`). The certificate's FTI is known from the start,
+//! so a packet is judged whether a carrier came before it or not; that none came is told in the
+//! end.
 //!
 //! What came is counted and grouped by a `tally`, whatever is asked of the symbols
-//! (`specs/Tallying`). The walk compares the symbols that `certified_symbols` makes of the
+//! (`specs/Tallying`). The checker compares the symbols that `certified_symbols` makes of the
 //! certificate with the object (`source`). It compares a datagram's symbol with the object's where
 //! it is a source symbol, else with the certified one (`datagrams`). A datagram's place goes into
 //! its block's group for `losses`, and that of a carrier behind the other carriers. `twins` makes
@@ -38,19 +38,16 @@ mod fault;
 mod from_reader;
 mod laws;
 mod source;
-mod surveying;
 mod tally;
 mod twins;
 mod verdict;
-mod walk;
 
 pub use checker::Checker;
-pub use checking::check;
+pub use checking::{check, session_twin};
 pub use fault::CheckFault;
-pub use from_reader::{check_from, check_view_from};
+pub use from_reader::check_from;
 pub use laws::{first_column, first_reason, one_verdict, own_name_changes_nothing, reason_order};
 pub use losses::Run;
-pub use surveying::survey_from;
 pub use tally::Tally;
-pub use twins::{TwinFault, session_twin, twin, write_twin};
+pub use twins::{TwinFault, twin, write_twin};
 pub use verdict::{Reason, Report, Survey, Verdict};

@@ -7,20 +7,14 @@ ghost use Rattle.streams.specs.Offsets.{StandsAt};
 ghost use Rattle.lists.specs.Bytes.{AreBytes};
 ghost use Rattle.gf256.specs.Arithmetic.{point as point_of};
 ghost use Rattle.partition.specs.Fti.{IsValidFti, block_bytes, block_count, source_count, start_of};
-ghost use Rattle.reception.specs.Reception.{counted, symbols};
-ghost use Rattle.reception.specs.Walks.{readings_of};
-ghost use Rattle.cert.specs.Verdict.{reception_to};
-ghost use Rattle.cert.specs.Twins.{different_esis, esis_of, IsTwin, IsShortIn, IsTwinOfSession};
+ghost use Rattle.cert.specs.Twins.{different_esis, IsTwin};
 ghost use Rattle.cert.specs.TwinBytes.{AppendsAny, IsTwinFault, twin_bytes};
 ghost use Rattle.cert.specs.TwinPieces.{AppendsBlock, byte_with_value};
 
-use certificate::Certificate;
 use gf256::{Field, Gf, point};
 use lists::are_bytes;
 use partition::Fti;
 use poly::Poly;
-use reception::{Identity, Look, Scope};
-use session::Session;
 use std::alloc::{AllocError, Global};
 use streams::{Failed, ReadAt, Write, fill_at, write_all};
 
@@ -235,64 +229,4 @@ pub fn write_twin<O: ReadAt, W: Write>(
     write_block(object, fti, block, &polynomial, &mut buffer[..size], writer)?;
     let end = from + size as u64;
     copy_part(object, end, fti.transfer_length(), &mut buffer, writer)
-}
-
-// The ESIs of a block's symbols in the identity's packets of the session, as they came, where no
-// datagram has a reason against it.
-fn esis_held(
-    alloc: Global,
-    session: &Session,
-    certificate: &Certificate,
-    block: u32,
-    identity: Identity,
-) -> Result<Vec<u8>, AllocError>
-    requires { (reception_to identity certificate.now (readings_of session.now)).wrong ≡ None }
-    ensures { IfOk result (λ v.
-        v.items ≡ esis_of block (symbols (counted identity (readings_of session.now)))) }
-{
-    let mut scope = Scope::with_fti(identity, certificate.fti());
-    let mut arrived_esis = Vec::new(alloc);
-    for place in 0..session.len() {
-        match scope.look(session.get(place)) {
-            Ok(Look::InRange(packet)) => {
-                if packet.sbn == block {
-                    arrived_esis.push(packet.esi)?;
-                }
-            }
-            Ok(Look::Other) => {}
-            Ok(Look::Early) => {}
-            Ok(Look::OtherFti) => {}
-            Ok(Look::SymbolLength) => {}
-            Ok(Look::Range) => {}
-            Err(_) => {}
-        }
-    }
-    Ok(arrived_esis)
-}
-
-/// A twin of the object where the check of the identity says `Thin` of this block, as it needs:
-/// another object of the certificate's FTI that agrees with all of the identity's packets in the
-/// session. Want of memory is the only error.
-pub fn session_twin(
-    alloc: Global,
-    session: &Session,
-    object: &[u8],
-    certificate: &Certificate,
-    block: u32,
-    identity: Identity,
-) -> Result<Vec<u8>, AllocError>
-    requires { IsShortIn identity session.now object.now certificate.now block }
-    ensures { IfOk result (λ other.
-        IsTwinOfSession identity certificate.now.fti block session.now object.now other.items) }
-{
-    // With its length comes what is true of each session: its datagrams are short.
-    session.len();
-    let arrived_esis = esis_held(alloc, session, certificate, block, identity)?;
-    twin(
-        alloc,
-        object,
-        &certificate.fti(),
-        block,
-        arrived_esis.as_slice(),
-    )
 }

@@ -2,10 +2,10 @@ pub mod Polynomials
 pub mod Texts
 pub mod Flat
 pub mod TextPlaces
-pub mod NamedTexts
 pub mod OneText
 pub mod RowsOfText
 pub mod TextsWithoutFault
+pub mod FileTexts
 pub mod Consuming
 pub mod TextView
 pub mod BlockByBlock

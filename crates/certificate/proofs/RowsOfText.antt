@@ -1,5 +1,5 @@
 -- The rows of coefficients that any bytes tell, so many as an FTI wants.
-use Rattle.std.specs.Prelude.{flat_map, map, slice_index, IfSome}
+use Rattle.std.specs.Prelude.{flat_map, slice_index, IfSome}
 use Rattle.std.proofs.Common.{◌≡◌, ℕ, zero, suc, ◌+◌, ◌*◌, ◌<◌, List, Option, Some, None, length, refl, sym, ap, ◌∙◌, inl, inr, arith, length-append}
 use Rattle.std.proofs.lemmas.Bool.{cases_lt}
 use Rattle.std.proofs.lemmas.List.{length-map, get_or_past}
@@ -12,19 +12,20 @@ use Rattle.partition.proofs.Laws.{start_step, start_end}
 use Rattle.reception.specs.declared.scope.Identity.{Identity}
 use Rattle.certificate.specs.Certificate.{Certificate, IsCertificate, IsIdentity, coefficient_count, coefficients_text}
 use Rattle.certificate.specs.CoefficientRows.{text_place}
+use Rattle.certificate.specs.InFile.{rows_in, told_block, told_row}
 use Rattle.certificate.proofs.Flat.{none_yet, next_part}
 use Rattle.certificate.proofs.Polynomials.{listed_at}
 use Rattle.certificate.proofs.TextPlaces.{in_part, is_text, place_in_rows}
 
 module _ (f : Fti) (told : List ℕ) where
   abbrev row : ℕ → ℕ → List ℕ
-  row b i = map (λ c. slice_index told (text_place f b c i)) (below f.symbol_length)
+  row = told_row f told
 
   abbrev block : ℕ → List ℕ
-  block b = flat_map (row b) (below (source_count f b))
+  block = told_block f told
 
   abbrev rows : List ℕ
-  rows = flat_map block (below (block_count f))
+  rows = rows_in None f told
 
   length_row : (b i : ℕ) → length (row b i) ≡ f.symbol_length
   length_row b i = length-map (below f.symbol_length) (λ c. slice_index told (text_place f b c i)) ∙ length_below f.symbol_length
@@ -56,7 +57,7 @@ module _ (f : Fti) (told : List ℕ) where
     length_all : length rows ≡ coefficient_count f
     length_all = length_blocks (block_count f) ∙ ap (λ (n : ℕ). n * f.symbol_length) (start_end f valid)
 
-    row_at : (b i c : ℕ) → b < block_count f → i < source_count f b → c < f.symbol_length
+    pub row_at : (b i c : ℕ) → b < block_count f → i < source_count f b → c < f.symbol_length
         → slice_index rows (source_place f b i c) ≡ slice_index told (text_place f b c i)
     row_at b i c hb hi hc =
         let ends = row_ends i (source_count f b) f.symbol_length hi in
@@ -80,10 +81,6 @@ module _ (f : Fti) (told : List ℕ) where
 pub formed : (name : Option Identity) (f : Fti) (rows : List ℕ) → IsValidFti f → IfSome name IsIdentity → length rows ≡ coefficient_count f → AreBytes rows
     → IsCertificate (record { fti = f; name = name; coefficients = rows })
 formed name f rows valid named count bytes = record { fti = valid; name = λ who e. rw e at named; count = count; bytes = bytes }
-
-abbrev pub rows_in : Option Identity → Fti → List ℕ → List ℕ
-rows_in (Some who) f told = told
-rows_in None f told = rows f told
 
 abbrev pub told_by : Option Identity → Fti → List ℕ → Certificate
 told_by name f told = record { fti = f; name = name; coefficients = rows_in name f told }

@@ -101,10 +101,6 @@ coefficients_text (Some who) z = z.coefficients
 abbrev pub certificate_text : Certificate → List ℕ
 certificate_text z = head_text z.name z.fti ++ coefficients_text z.name z
 
--- the certificate with this FTI and this name whose text the bytes are, if they are one's
-abbrev pub named_in : List ℕ → Fti → Identity → Certificate
-named_in text f who = record { fti = f; name = Some who; coefficients = drop 34 text }
-
 -- the text of a certificate
 abbrev pub IsTextOfSome : List ℕ → Type 0
 IsTextOfSome x = (z : Certificate) × IsCertificate z × (x ≡ certificate_text z)

@@ -22,7 +22,7 @@ const MAGIC: [u8; 4] = *b"RSC1";
 const MAGIC_OF_NAMED: [u8; 4] = *b"RSC2";
 
 // The bytes of a head without a name, and with one.
-const LENGTH: usize = 14;
+pub(crate) const LENGTH: usize = 14;
 
 pub(crate) const LENGTH_OF_NAMED: usize = 34;
 

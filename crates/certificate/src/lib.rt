@@ -11,7 +11,7 @@
 //! reads and writes what stands in the file before the coefficients, and `column_text` the
 //! coefficients of a certificate without a name, column by column. `converting` gives a file a
 //! name, block by block. `view` has a certificate whose coefficients may be borrowed, and `in_file`
-//! one with a name that stays in its file.
+//! one whose coefficients stay in its file.
 #![tactic(auto)]
 
 mod certificate;
@@ -24,5 +24,5 @@ mod view;
 pub use certificate::{CertFault, Certificate, one_certificate, texts_without_fault};
 pub use converting::{ConvertFault, convert};
 pub use head::write_head;
-pub use in_file::NamedCertificate;
+pub use in_file::CertificateFile;
 pub use view::CertificateView;

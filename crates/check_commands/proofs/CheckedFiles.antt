@@ -1,6 +1,6 @@
 -- Files that were checked where they stand, by their parts.
 use Rattle.std.proofs.Common.{◌≡◌, ◌∙◌, ◌⊎◌, ℕ, Bool, false, List, [], ◌∷◌, Option, Some, None, Result, Ok, Err, inl, inr, refl, sym, subst}
-use Rattle.std.specs.Prelude.{IfErr, IfOk, IfSome}
+use Rattle.std.specs.Prelude.{IfErr, IfOk}
 use Rattle.check_commands.specs.declared.check.Answered.{Answered}
 use Rattle.std.specs.Borrow.{Bor}
 use Rattle.session.specs.declared.frame.FrameFault.{FrameFault}
@@ -13,7 +13,7 @@ use Rattle.cert.specs.declared.verdict.Survey.{Survey}
 use Rattle.cert.specs.declared.verdict.Verdict.{Verdict}
 use Rattle.cert.specs.declared.verdict.Verdict.TheVariants.{Yes, No}
 use Rattle.reception.specs.declared.scope.Identity.{Identity}
-use Rattle.file_check.specs.Files.{IsFaultUntold, IsFilesFault, IsNoCertificate, IsSurveyIn, IsSurveyOnSome, IsVerdictIn, IsVerdictOnSome, Reliable, WhereTold}
+use Rattle.file_check.specs.Files.{IsFaultUntold, IsFilesFault, IsNoCertificate, IsSurveyOnSome, IsVerdictOnSome, Reliable, WhereTold}
 use Rattle.cert.specs.declared.fault.CheckFault.{CheckFault}
 use Rattle.cert.specs.declared.fault.CheckFault.TheVariants as check_fault
 use Rattle.request.specs.declared.requests.CheckRequest.{CheckRequest}
@@ -148,18 +148,6 @@ module _ (w : World) (r : CheckRequest) (session object text : Option (List ℕ)
   pub is_of_files : (Fact : List ℕ → List ℕ → List ℕ → Type 0) → WhereTold session object text Fact → OfFiles w.files r Fact
   is_of_files Fact h = of_files Fact w.files refl h
 
-  pub verdict_of_files : (o : Option Verdict) → WhereTold session object text (λ x y z. IfSome o (IsVerdictIn r.identity x y z)) → IfSome o (λ v. OfFiles w.files r (λ x y z. IsVerdictIn r.identity x y z v))
-  verdict_of_files None h = tt
-  verdict_of_files (Some v) h = is_of_files (λ x y z. IsVerdictIn r.identity x y z v) h
-
-  -- and with a survey
-  pub surveyed_of_files : (o : Option (Verdict × Option Survey)) → WhereTold session object text (λ x y z. IfSome o (λ found. IsSurveyIn r.identity x y z found.0 found.1))
-      → IfSome o (λ found. OfFiles w.files r (λ x y z. IsVerdictIn r.identity x y z found.0))
-  surveyed_of_files None h = tt
-  surveyed_of_files (Some found) h =
-      is_of_files (λ x y z. IsVerdictIn r.identity x y z found.0)
-      (λ x y z sx sy sz. (let is = h x y z sx sy sz in (is.0, is.1, is.2, is.3.checked)))
-
 -- ---- a verdict on some datagrams
 
 pub some_summed : (who : Identity) (verdict : Verdict) → IsVerdictOnSome who verdict → OnYes verdict CanBeSummed
@@ -167,12 +155,8 @@ some_summed who (Yes report) (ds, f, valid, is) = has_block who ds f valid repor
 some_summed who (No reason) h = tt
 
 -- and with a survey
-some_verdict : (who : Identity) (verdict : Verdict) (survey : Option Survey) → IsSurveyOnSome who verdict survey → IsVerdictOnSome who verdict
+pub some_verdict : (who : Identity) (verdict : Verdict) (survey : Option Survey) → IsSurveyOnSome who verdict survey → IsVerdictOnSome who verdict
 some_verdict who verdict survey (ds, f, valid, is, surveyed) = (ds, f, valid, is)
-
-pub each_surveyed : (who : Identity) (o : Option (Verdict × Option Survey)) → IfSome o (λ found. IsSurveyOnSome who found.0 found.1) → IfSome o (λ found. IsVerdictOnSome who found.0)
-each_surveyed who None h = tt
-each_surveyed who (Some found) h = some_verdict who found.0 found.1 h
 
 -- ---- one of two results
 

@@ -11,6 +11,8 @@ use Rattle.reception.specs.declared.scope.Identity.{Identity}
 use Rattle.certificate.specs.Certificate.{Certificate, IsCertificate}
 use Rattle.cert.specs.FromReader.{IsCheckedFrom}
 use Rattle.cert.specs.Report.{IsReport, OnYes}
+use Rattle.cert.specs.Surveying.{OnYesWith}
+use Rattle.cert.specs.declared.verdict.Survey.{Survey}
 use Rattle.cert.specs.declared.verdict.Report.{Report}
 use Rattle.cert.specs.declared.verdict.Verdict.{Verdict}
 use Rattle.cert.specs.declared.verdict.Verdict.TheVariants.{Yes, No}
@@ -25,7 +27,7 @@ use Rattle.check_commands.specs.declared.check.Answered.{Answered}
 use Rattle.commands.specs.Commands.{Outcome, Gives, IsDrawn, TellsVerdict, inputs_of, output_of, status_of}
 use Rattle.commands.specs.Outcomes.{IsOutput, MayCreate}
 use Rattle.commands.specs.Doing.{text_of, HasMade}
-use Rattle.check_commands.specs.Drawing.{HasDrawn}
+use Rattle.check_commands.specs.Drawing.{HasDrawn, IsSurveyed}
 use Rattle.file_check.specs.Files.{IsVerdictIn, IsVerdictOnSome}
 use Rattle.std.specs.Prelude.{IfOk}
 use Rattle.commands.specs.declared.fault.Fault.{Fault}
@@ -150,6 +152,13 @@ told_there (Some held) r verdict answered (session, object, certificate, at_sess
       read = ((session, at_session, refl), ((object, at_object, refl), ((is_text.0, (certificate, at_certificate, is_text.1)), tt)));
       tells = record { verdict = verdict; checked = checked; text = text; status = status; picture = picture };
     })
+
+-- there is a survey at a yes
+pub is_surveyed : (picture : Option (Bor (List ℕ))) (P : Report → Survey → Type 0) (verdict : Verdict) (survey : Option Survey) → OnYesWith verdict survey P → IsSurveyed picture verdict survey
+is_surveyed None P verdict survey h = tt
+is_surveyed (Some name) P (No reason) survey h = tt
+is_surveyed (Some name) P (Yes report) None h = absurd h
+is_surveyed (Some name) P (Yes report) (Some survey) h = tt
 
 -- what is told of what is held
 pub held_told : (files : Option Files) (r : CheckRequest) (opened left : Option (List ℕ)) (object : List ℕ) (z : Certificate)

@@ -48,7 +48,7 @@ use Rattle.commands.specs.declared.output.Unwritten.TheVariants as unwritten
 use Rattle.check_commands.proofs.CheckedFiles.{an_object, certificate_unopened, no_certificate, object_unopened}
 use Rattle.commands.proofs.Stopping.{by_unread, kept_whole, may_fail, stopped}
 use Rattle.commands.proofs.Holding.{holds_told}
-use Rattle.commands.proofs.Passing.{no_datagrams, session_unopened, unframed}
+use Rattle.commands.proofs.Passing.{session_unopened, unframed}
 
 abbrev equal : Result ℕ Unwritten → Result ℕ Unwritten → Type 0
 equal a b = a ≡ b
@@ -190,10 +190,9 @@ module _ (w : World) (r : TwinRequest) (session object text : Option (List ℕ))
   is_judged None is verdict short h = tt
   is_judged (Some held) is verdict short h = has_judged held is verdict short h
 
-  pub found_each : (found : Option (Verdict × Option ShortBlock)) → WhereTold session object text (λ x y z. IfSome found (λ f. IsTwinnedIn r.identity x y z f.0 f.1))
-      → IfSome found (λ f. IsShortFound f.0 f.1) → IfSome found (λ f. IsFoundIn w.files r f.0 f.1)
-  found_each None h short = tt
-  found_each (Some f) h short = (short, is_judged w.files refl f.0 f.1 h)
+  pub found_of : (verdict : Verdict) (short : Option ShortBlock) → WhereTold session object text (λ x y z. IsTwinnedIn r.identity x y z verdict short) → IsShortFound verdict short
+      → IsFoundIn w.files r verdict short
+  found_of verdict short h found = (found, is_judged w.files refl verdict short h)
 
   -- ---- why nothing is
 

@@ -1,11 +1,14 @@
 //! The command `check`.
-ghost use Rattle.std.specs.Prelude.{◌≡◌, ◌≤◌, ◌++◌, decimal, IfOk, IfErr, IfSome, OnOk};
+ghost use Rattle.std.specs.Prelude.{◌≡◌, ◌≤◌, ◌++◌, ℕ, List, false, decimal, IfOk, IfErr, OnOk};
 ghost use Rattle.certificate.specs.Certificate.{IsCertificate};
+ghost use Rattle.cert.specs.FromReader.{IsCheckFault, IsCheckedFrom, IsRefusedBehind};
 ghost use Rattle.cert.specs.Report.{OnYes};
 ghost use Rattle.cert.specs.declared.verdict.Verdict.TheVariants.{No};
 ghost use Rattle.request.specs.declared.requests.Request.TheVariants.{Check};
 ghost use Rattle.commands.specs.Commands.{TellsVerdict, status_of as verdict_status};
 ghost use Rattle.commands.specs.Doing.{HasMade, HasStopped, text_of};
+ghost use Rattle.file_check.specs.Answers.{HasChecked, HasCheckedSome};
+ghost use Rattle.file_check.specs.Files.{IsVerdictIn, IsVerdictOnSome};
 ghost use Rattle.host.specs.World.{GivesFile};
 ghost use Rattle.check_commands.specs.Checks.{HaveChanged, IsNotChecked, TellsCheck, TellsRequest};
 ghost use Rattle.check_commands.specs.Drawing.{HasDrawn, IsSurveyed};
@@ -16,17 +19,18 @@ ghost use Rattle.commands.specs.Lines.{reason_text, verdict_text as text_of_verd
 use crate::drawing::{Drawn, picture_of};
 use crate::faults::check_fault;
 use crate::summary::summary_lines;
-use cert::{Reason, Report, Survey, Verdict, check_from, survey_from};
+use cert::{CheckFault, Checker, Reason, Report, Survey, Verdict};
 use certificate::Certificate;
 use commands::{
     Done, Fault, Text, Told, Why, certificate_in, object_in, open, put_packet_fault,
     read_certificate, write_output,
 };
-use file_check::{Files, check_files, survey_files};
+use file_check::{Checked, Files, check_files};
 use host::Host;
 use request::{CheckRequest, Output};
-use session::Read;
+use session::{FrameFault, Read};
 use std::alloc::{AllocError, Global};
+use std::borrow::CowSlice;
 
 /// What is told of a check, and the picture, where one is asked for and the answer is yes.
 #[derive(Drop)]
@@ -62,8 +66,8 @@ pub fn check<'a, H: Host>(
     }
 }
 
-// What is told of the files of a request. Where none of them is a pipe or a device, and the
-// certificate has a name, they are checked where they stand.
+// What is told of the files of a request. They are checked where they stand, if none of them is a
+// pipe or a device.
 fn read_and_answer<'a, H: Host>(
     alloc: Global,
     host: &H,
@@ -87,24 +91,21 @@ fn read_and_answer<'a, H: Host>(
             object: &object,
             certificate: &certificate,
         };
-        if let Some(answered) = answer_files(alloc, host, request, &files, length)? {
-            return Ok(answered);
-        }
+        return answer_files(alloc, host, request, &files, length);
     }
     let bytes = object_in(alloc, host, request.object, &mut object)?;
     let certificate = certificate_in(alloc, host, request.certificate, &mut certificate)?;
     answer_of(alloc, &mut session, bytes.as_slice(), &certificate, request)
 }
 
-// What is told of files that stand where they are, of an object of so many bytes. `None` where the
-// certificate has no name.
+// What is told of files that stand where they are, of an object of so many bytes.
 fn answer_files<'a, H: Host>(
     alloc: Global,
     host: &H,
     request: &CheckRequest<'a>,
     files: &Files<'_, H::Input, H::Input, H::Input>,
     object_length: u64,
-) -> Result<Option<Answered<'a>>, Fault<'a>>
+) -> Result<Answered<'a>, Fault<'a>>
     requires session { GivesFile (H.world host.now) request.now.session.now
         (H.Input.content files.now.session.now) (H.Input.reliable files.now.session.now) }
     requires object { GivesFile (H.world host.now) request.now.object.now
@@ -112,31 +113,40 @@ fn answer_files<'a, H: Host>(
     requires certificate { GivesFile (H.world host.now) request.now.certificate.now
         (H.Input.content files.now.certificate.now)
         (H.Input.reliable files.now.certificate.now) }
-    ensures ok { IfOk result (λ o. IfSome o
-        (TellsRequest (H.world host.now).files request.now)) }
+    ensures ok { IfOk result (TellsRequest (H.world host.now).files request.now) }
     ensures fault { IfErr result
         (HasStopped (H.world host.now) (H.world host.now) (Check request.now)) }
 {
-    let checked = if request.picture.is_some() {
-        survey_files(alloc, files, request.identity)
-    } else {
-        match check_files(alloc, files, request.identity) {
-            Ok(Some(verdict)) => Ok(Some((verdict, None))),
-            Ok(None) => Ok(None),
-            Err(fault) => Err(fault),
-        }
+    let checked = match check_files(alloc, files, request.identity) {
+        Ok(checked) => checked,
+        Err(fault) => return Err(check_fault(request.session, request.object, fault)),
     };
-    match checked {
-        Ok(Some((verdict, survey))) => {
-            see_files(
-                host,
-                (request.session, request.object, request.certificate),
-                files,
-            )?;
-            Ok(Some(answer_verdict(alloc, request, object_length, &verdict, &survey)?))
-        }
-        Ok(None) => Ok(None),
-        Err(fault) => Err(check_fault(request.session, request.object, fault)),
+    see_files(
+        host,
+        (request.session, request.object, request.certificate),
+        files,
+    )?;
+    let (verdict, survey) = surveyed_verdict(alloc, &checked, request)?;
+    Ok(answer_verdict(alloc, request, object_length, &verdict, &survey)?)
+}
+
+// The verdict of a check, and its survey, where a picture is asked for.
+fn surveyed_verdict(
+    alloc: Global,
+    checked: &Checked,
+    request: &CheckRequest<'_>,
+) -> Result<(Verdict, Option<Survey>), AllocError>
+    requires { HasCheckedSome request.now.identity checked.now }
+    ensures verdict { (x o text : List ℕ) → HasChecked request.now.identity x o text checked.now
+        → IfOk result (λ found. IsVerdictIn request.now.identity x o text found.0) }
+    ensures some { IfOk result (λ found. IsVerdictOnSome request.now.identity found.0) }
+    ensures surveyed { IfOk result (λ found.
+        IsSurveyed request.now.picture found.0 found.1) }
+{
+    if request.picture.is_some() {
+        checked.survey(alloc)
+    } else {
+        Ok((checked.verdict(alloc)?, None))
     }
 }
 
@@ -162,6 +172,37 @@ pub(crate) fn see_files<'a, H: Host>(
     Ok(())
 }
 
+// The verdict on the frames that a reader has left, and its survey, where a picture is asked for.
+fn verdict_from<R: Read>(
+    alloc: Global,
+    frames: &mut R,
+    object: &[u8],
+    certificate: &Certificate,
+    request: &CheckRequest<'_>,
+) -> Result<(Verdict, Option<Survey>), CheckFault>
+    ensures verdict { IfOk result (λ found. IsCheckedFrom request.now.identity
+        (R.remaining frames.old) (R.remaining frames.new) object.now certificate.now found.0) }
+    ensures surveyed { IfOk result (λ found.
+        IsSurveyed request.now.picture found.0 found.1) }
+    ensures fault { IfErr result (IsCheckFault (λ fault. IsRefusedBehind request.now.identity fault
+        (R.remaining frames.old) (R.remaining frames.new) (R.failed frames.new)
+        object.now certificate.now)) }
+    ensures unsound { IfErr result (λ fault.
+        fault ≡ CheckFault.Frame FrameFault.Io → R.sound frames.old ≡ false) }
+{
+    let object = CowSlice::Borrowed(object);
+    let mut checker = match Checker::new(alloc, object, certificate.view(), request.identity)? {
+        Ok(checker) => checker,
+        Err(reason) => return Ok((Verdict::No(reason), None)),
+    };
+    checker.feed_all(alloc, frames)?;
+    if request.picture.is_some() {
+        Ok(checker.survey(alloc)?)
+    } else {
+        Ok((checker.verdict(alloc)?, None))
+    }
+}
+
 // What is told of the frames that a reader has left.
 fn answer_of<'a, R: Read>(
     alloc: Global,
@@ -176,14 +217,7 @@ fn answer_of<'a, R: Read>(
     ensures fault { IfErr result (IsNotChecked request.now.identity (R.sound frames.old)
         (R.remaining frames.old) object.now certificate.now) }
 {
-    let checked = if request.picture.is_some() {
-        survey_from(alloc, frames, object, certificate, request.identity)
-    } else {
-        match check_from(alloc, frames, object, certificate, request.identity) {
-            Ok(verdict) => Ok((verdict, None)),
-            Err(fault) => Err(fault),
-        }
-    };
+    let checked = verdict_from(alloc, frames, object, certificate, request);
     match checked {
         Ok((verdict, survey)) => {
             let length = object.len() as u64;

@@ -25,7 +25,7 @@ use commands::{
     Done, Fault, Text, Told, Unwritten, Why, certificate_in, commit, if_unchanged, object_in, open,
     pass_frames, read_certificate, read_object, session_in, write_output,
 };
-use file_check::{Files, ShortBlock, check_for_twin};
+use file_check::{Files, ShortBlock, check_files};
 use host::Host;
 use reception::Identity;
 use request::TwinRequest;
@@ -275,14 +275,13 @@ fn files_of<'a, H: Host>(
     })
 }
 
-// The verdict on files, and the block that is short, if one is. `None` where the certificate has no
-// name.
+// The verdict on files, and the block that is short, if one is.
 fn found_in<'a, H: Host>(
     alloc: Global,
     host: &H,
     request: &TwinRequest<'a>,
     files: &Files<'_, H::Input, H::Input, H::Input>,
-) -> Result<Option<(Verdict, Option<ShortBlock>)>, Fault<'a>>
+) -> Result<(Verdict, Option<ShortBlock>), Fault<'a>>
     requires session { GivesFile (H.world host.now) request.now.session.now
         (H.Input.content files.now.session.now) (H.Input.reliable files.now.session.now) }
     requires object { GivesFile (H.world host.now) request.now.object.now
@@ -291,19 +290,19 @@ fn found_in<'a, H: Host>(
         (H.Input.content files.now.certificate.now)
         (H.Input.reliable files.now.certificate.now) }
     requires framed { HoldsFrames (H.world host.now).files request.now }
-    ensures found { IfOk result (λ o. IfSome o (λ found.
-        IsFoundIn (H.world host.now).files request.now found.0 found.1)) }
+    ensures found { IfOk result (λ found.
+        IsFoundIn (H.world host.now).files request.now found.0 found.1) }
     ensures fault { IfErr result
         (HasStopped (H.world host.now) (H.world host.now) (Twin request.now)) }
 {
-    match check_for_twin(alloc, files, request.identity) {
-        Ok(found) => {
+    match check_files(alloc, files, request.identity) {
+        Ok(checked) => {
             see_files(
                 host,
                 (request.session, request.object, request.certificate),
                 files,
             )?;
-            Ok(found)
+            Ok(checked.short_block(alloc)?)
         }
         Err(fault) => Err(check_fault(request.session, request.object, fault)),
     }
@@ -400,7 +399,7 @@ fn write_other<'a, O: ReadAt, W: Write>(
 }
 
 /// Writes another object that agrees with all datagrams of the session, where the check finds a
-/// block short. Inputs that can all be read at offsets aren't held, if the certificate has a name.
+/// block short. Inputs that can all be read at offsets aren't held.
 pub fn twin<'a, H: Host>(
     alloc: Global,
     host: &mut H,
@@ -413,9 +412,8 @@ pub fn twin<'a, H: Host>(
 {
     let opened = open_inputs(alloc, host, request)?;
     if let Some(files) = files_of(host, &opened) {
-        if let Some((verdict, short)) = found_in(alloc, host, request, &files)? {
-            return tell_found(alloc, host, request, files.object, &verdict, short);
-        }
+        let (verdict, short) = found_in(alloc, host, request, &files)?;
+        return tell_found(alloc, host, request, files.object, &verdict, short);
     }
     let inputs = read_inputs(alloc, host, request, opened)?;
     tell_held(alloc, host, request, &inputs)

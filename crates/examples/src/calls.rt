@@ -79,10 +79,9 @@ fn tell_files(rt: &HostRuntime, frames: &[u8], text: &[u8]) -> Result<(), Exampl
         object: &MemoryFile::new(OBJECT, 4096),
         certificate: &MemoryFile::new(text, 4096),
     };
-    match check_files(alloc, &files, IDENTITY)? {
-        Some(Verdict::Yes(report)) => println!(rt; "margin {}", report.margin)?,
-        Some(Verdict::No(reason)) => println!(rt; "no {reason:?}")?,
-        None => println!(rt; "the certificate has no name")?,
+    match check_files(alloc, &files, IDENTITY)?.verdict(alloc)? {
+        Verdict::Yes(report) => println!(rt; "margin {}", report.margin)?,
+        Verdict::No(reason) => println!(rt; "no {reason:?}")?,
     }
     match index_file(alloc, &session, IDENTITY)? {
         Ok(symbols) => println!(rt; "of {} bytes", symbols.transfer_length())?,

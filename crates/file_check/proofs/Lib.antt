@@ -9,3 +9,4 @@ pub mod Carriers
 pub mod SourceBytes
 pub mod WholeTallies
 pub mod Twins
+pub mod Answering

@@ -1,15 +1,18 @@
 -- What is known where files were checked.
-use Rattle.std.specs.Prelude.{◌≡◌, ◌⊎◌, ℕ, List, Option, Some}
+use Rattle.std.specs.Prelude.{◌≡◌, ◌⊎◌, ℕ, true, List, Option, Some, Result, Ok, Err}
 use Rattle.std.specs.Io.KnownBytes.{Consumes, IsAtEnd}
 use Rattle.partition.specs.Fti.{Fti, block_count}
 use Rattle.session.specs.Frames.{frames, AreDatagrams}
 use Rattle.reception.specs.declared.scope.Identity.{Identity}
-use Rattle.certificate.specs.Certificate.{Certificate}
+use Rattle.reception.specs.Symbols.{IsObject}
+use Rattle.certificate.specs.Certificate.{Certificate, is_for}
+use Rattle.cert.specs.FromReader.{IsCheckedFrom}
 use Rattle.cert.specs.Tallying.{IsTally, Tallied, by_certificate, nothing}
-use Rattle.cert.specs.Verdict.{IsFirstNotGiven}
+use Rattle.cert.specs.Verdict.{GivesObject, IsFirstNotGiven}
 use Rattle.cert.specs.declared.tally.Tally.{Tally}
 use Rattle.cert.specs.declared.verdict.Reason.{Reason}
 use Rattle.cert.specs.declared.verdict.Reason.TheVariants.{NotObject, Symbol}
+use Rattle.cert.specs.declared.verdict.Verdict.TheVariants.{No}
 use Rattle.file_check.specs.Compared.{AreCompared}
 use Rattle.file_check.specs.declared.blocks.Wrong.{Wrong}
 
@@ -38,3 +41,11 @@ pub record IsSomeTally (who : Identity) (f : Fti) (tally : Tally) : Type 0 where
   pub each : AreDatagrams datagrams
   pub identity : tally.scope.identity ≡ who
   pub tallied : IsTally nothing f tally datagrams
+
+-- What was found of a session, an object and a certificate: the tally, where each datagram is as
+-- the certificate has it and the certificate gives the object; else the first reason.
+abbrev pub IsFoundIn : Identity → List ℕ → List ℕ → Certificate → Result Tally Reason → Type 0
+IsFoundIn who session object z (Ok tally) = IsWholeTally who session z tally
+    × (is_for who z.name ≡ true) × IsObject z.fti object × GivesObject object z
+IsFoundIn who session object z (Err reason) =
+    (left : Option (List ℕ)) × IsCheckedFrom who (Some session) left object z (No reason)

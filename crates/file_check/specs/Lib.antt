@@ -4,4 +4,5 @@ pub mod Blocks
 pub mod Files
 pub mod Compared
 pub mod Checked
+pub mod Answers
 pub mod Shortness

@@ -4,14 +4,13 @@ ghost use Rattle.std.specs.Prelude.{◌≡◌, ◌<◌, ◌*◌, ℕ, List, None
 ghost use Rattle.std.specs.Prelude.{OnOk, IfOk, IfErr, IfSome, IsNone};
 ghost use Rattle.losses.specs.Groups.{groups_of};
 ghost use Rattle.partition.specs.Fti.{block_count, source_count, encoding_count};
-ghost use Rattle.reception.specs.Symbols.{IsObject};
-ghost use Rattle.certificate.specs.Certificate.{is_for, named_in};
-ghost use Rattle.certificate.specs.InFile.{IsUnnamed};
+ghost use Rattle.reception.specs.declared.scope.Identity.{Identity as IdentityValue};
+ghost use Rattle.certificate.specs.InFile.{certificate_in};
 ghost use Rattle.cert.specs.Tallying.{tallied_of};
-ghost use Rattle.cert.specs.FromReader.{IsCheckedFrom};
 ghost use Rattle.cert.specs.NotGiven.{IsFirstInBlock};
-ghost use Rattle.cert.specs.Verdict.{GivesObject, short_of};
-ghost use Rattle.file_check.specs.Checked.{IsBlocksReason, IsSomeTally, IsWholeTally};
+ghost use Rattle.cert.specs.Verdict.{short_of};
+ghost use Rattle.file_check.specs.Answers.{HasChecked, HasCheckedSome};
+ghost use Rattle.file_check.specs.Checked.{IsBlocksReason, IsFoundIn, IsSomeTally};
 ghost use Rattle.file_check.specs.Files.{IsFaultUntold, IsFileFault, IsFilesFault};
 ghost use Rattle.file_check.specs.Files.{IsNoCertificate, IsNoVerdict};
 ghost use Rattle.file_check.specs.Compared.{AreCompared, IsCompared};
@@ -24,7 +23,7 @@ use crate::blocks::{Wrong, first_not_given, make_symbols, read_source};
 use crate::index::{End, Index, index_session};
 use crate::members::{Made, ROOM, first_wrong};
 use cert::{CheckFault, Reason, Survey, Tally, Verdict};
-use certificate::{CertFault, NamedCertificate};
+use certificate::{CertFault, CertificateFile};
 use partition::Fti;
 use reception::Identity;
 use std::alloc::{AllocError, Global};
@@ -50,12 +49,12 @@ pub struct ShortBlock {
     pub arrived_esis: Vec<u8>,
 }
 
-// What is checked where the certificate has a name.
+// What is checked, with what stands in front of the certificate.
 #[derive(Drop)]
-struct NamedFiles<'a, S: ReadAt, O: ReadAt, C: ReadAt> {
+struct OpenFiles<'a, S: ReadAt, O: ReadAt, C: ReadAt> {
     session: &'a S,
     object: &'a O,
-    certificate: NamedCertificate<'a, C>,
+    certificate: CertificateFile<'a, C>,
 }
 
 // What is read and made of one block, and a datagram. The memory is used again for each block.
@@ -101,7 +100,7 @@ impl Buffers {
 // symbol are told in which its polynomials don't give the object. Else the first wrong symbol is
 // that of this block and of those before it, of which it is known.
 fn compare_block<S: ReadAt, O: ReadAt, C: ReadAt>(
-    files: &NamedFiles<'_, S, O, C>,
+    files: &OpenFiles<'_, S, O, C>,
     index: &Index,
     session: &mut Lanes<'_, S>,
     buffers: &mut Buffers,
@@ -118,13 +117,14 @@ fn compare_block<S: ReadAt, O: ReadAt, C: ReadAt>(
         (λ x o text. (ds : List (List ℕ))
         → IsIndexOf x files.now.certificate.fti index.now ds
         → length o ≡ files.now.certificate.fti.transfer_length → IfOk result (λ r. IsNone r
-        → IsCompared (named_in text files.now.certificate.fti files.now.certificate.name)
+        → IsCompared (certificate_in text files.now.certificate.fti files.now.certificate.name)
         o (tallied_of index.now.tally) ds block wrong.old wrong.new)) }
     ensures not_given { WhereTold (S.content files.now.session.now)
         (O.content files.now.object.now) (C.content files.now.certificate.file.now)
         (λ x o text. length o ≡ files.now.certificate.fti.transfer_length
         → IfOk result (λ r. IfSome r (λ at. IsFirstInBlock o
-        (named_in text files.now.certificate.fti files.now.certificate.name) block at.0 at.1))) }
+        (certificate_in text files.now.certificate.fti files.now.certificate.name) block
+        at.0 at.1))) }
     ensures fault { WhereTold (S.content files.now.session.now)
         (O.content files.now.object.now) (C.content files.now.certificate.file.now)
         (λ x o text. (ds : List (List ℕ))
@@ -141,7 +141,8 @@ fn compare_block<S: ReadAt, O: ReadAt, C: ReadAt>(
 {
     let fti = files.certificate.fti;
     buffers.resize(&fti, block)?;
-    let Ok(()) = files.certificate.read_rows(block, &mut buffers.rows) else {
+    let room = &mut buffers.symbols;
+    let Ok(()) = files.certificate.read_rows(block, room, &mut buffers.rows) else {
         return Err(CheckFault::Certificate(CertFault::Io));
     };
     make_symbols(&fti, block, &buffers.rows, &mut buffers.symbols);
@@ -169,7 +170,7 @@ fn compare_block<S: ReadAt, O: ReadAt, C: ReadAt>(
 // first source point that the polynomials don't give, else that of the first wrong symbol.
 fn compare_blocks<S: ReadAt, O: ReadAt, C: ReadAt>(
     alloc: Global,
-    files: &NamedFiles<'_, S, O, C>,
+    files: &OpenFiles<'_, S, O, C>,
     index: &Index,
 ) -> Result<Option<Reason>, CheckFault>
     requires groups { length (groups_of index.now.tally.groups)
@@ -180,7 +181,7 @@ fn compare_blocks<S: ReadAt, O: ReadAt, C: ReadAt>(
         (λ x o text. (ds : List (List ℕ))
         → IsIndexOf x files.now.certificate.fti index.now ds
         → length o ≡ files.now.certificate.fti.transfer_length → IfOk result (λ r. IsNone r
-        → AreCompared (named_in text files.now.certificate.fti files.now.certificate.name)
+        → AreCompared (certificate_in text files.now.certificate.fti files.now.certificate.name)
         o (tallied_of index.now.tally) ds (block_count files.now.certificate.fti) None)) }
     ensures against { WhereTold (S.content files.now.session.now)
         (O.content files.now.object.now) (C.content files.now.certificate.file.now)
@@ -188,7 +189,7 @@ fn compare_blocks<S: ReadAt, O: ReadAt, C: ReadAt>(
         → IsIndexOf x files.now.certificate.fti index.now ds
         → length o ≡ files.now.certificate.fti.transfer_length
         → IfOk result (λ r. IfSome r (IsBlocksReason
-        (named_in text files.now.certificate.fti files.now.certificate.name)
+        (certificate_in text files.now.certificate.fti files.now.certificate.name)
         o (tallied_of index.now.tally) ds))) }
     ensures early { IfOk result (λ r. IfSome r (λ reason. short_of reason ≡ None)) }
     ensures fault { WhereTold (S.content files.now.session.now)
@@ -228,25 +229,13 @@ fn compare_blocks<S: ReadAt, O: ReadAt, C: ReadAt>(
 // gives the object, or the first reason for which they aren't.
 fn tally_files<S: ReadAt, O: ReadAt, C: ReadAt>(
     alloc: Global,
-    files: &NamedFiles<'_, S, O, C>,
+    files: &OpenFiles<'_, S, O, C>,
     identity: Identity,
 ) -> Result<Result<Tally, Reason>, CheckFault>
-    ensures tally { WhereTold (S.content files.now.session.now)
+    ensures found { WhereTold (S.content files.now.session.now)
         (O.content files.now.object.now) (C.content files.now.certificate.file.now)
-        (λ x o text. IfOk result (λ r. IfOk r (IsWholeTally identity x
-        (named_in text files.now.certificate.fti files.now.certificate.name)))) }
-    ensures given { WhereTold (S.content files.now.session.now)
-        (O.content files.now.object.now) (C.content files.now.certificate.file.now)
-        (λ x o text. IfOk result (λ r. OnOk r
-        ((is_for identity (Some files.now.certificate.name) ≡ true)
-        × IsObject files.now.certificate.fti o × GivesObject o
-        (named_in text files.now.certificate.fti files.now.certificate.name)))) }
-    ensures no { WhereTold (S.content files.now.session.now)
-        (O.content files.now.object.now) (C.content files.now.certificate.file.now)
-        (λ x o text. IfOk result (λ r. IfErr r (λ reason. (left : _)
-        × IsCheckedFrom identity (Some x) left o
-        (named_in text files.now.certificate.fti files.now.certificate.name)
-        (Verdict.No reason)))) }
+        (λ x o text. IfOk result (IsFoundIn identity x o
+        (certificate_in text files.now.certificate.fti files.now.certificate.name))) }
     ensures early { IfOk result (λ r. IfErr r (λ reason. short_of reason ≡ None)) }
     ensures some { IfOk result (λ r. IfOk r (IsSomeTally identity files.now.certificate.fti)) }
     ensures fault { WhereTold (S.content files.now.session.now)
@@ -256,12 +245,12 @@ fn tally_files<S: ReadAt, O: ReadAt, C: ReadAt>(
           session = S.reliable files.now.session.now;
           object = O.reliable files.now.object.now;
           certificate = C.reliable files.now.certificate.file.now;
-        }) x o (named_in text files.now.certificate.fti files.now.certificate.name))) }
+        }) x o (certificate_in text files.now.certificate.fti files.now.certificate.name))) }
     ensures untold { IfErr result (IsFaultUntold (S.reliable files.now.session.now)
         (C.content files.now.certificate.file.now) (C.reliable files.now.certificate.file.now)) }
 {
     let fti = files.certificate.fti;
-    if files.certificate.name != identity {
+    if !files.certificate.is_for(&identity) {
         return Ok(Err(Reason::OtherCertificate));
     }
     match has_length(files.object, fti.transfer_length()) {
@@ -280,48 +269,39 @@ fn tally_files<S: ReadAt, O: ReadAt, C: ReadAt>(
     }
 }
 
-// The files, where the certificate has a name.
-fn named<'a, S: ReadAt, O: ReadAt, C: ReadAt>(
+// The files, where the last one holds a certificate.
+fn opened<'a, S: ReadAt, O: ReadAt, C: ReadAt>(
     files: &Files<'a, S, O, C>,
-) -> Result<Option<NamedFiles<'a, S, O, C>>, CertFault>
-    ensures session { IfOk result (λ r. IfSome r (λ named.
-        named.session.now ≡ files.now.session.now)) }
-    ensures object { IfOk result (λ r. IfSome r (λ named.
-        named.object.now ≡ files.now.object.now)) }
-    ensures certificate { IfOk result (λ r. IfSome r (λ named.
-        named.certificate.file.now ≡ files.now.certificate.now)) }
-    ensures unnamed { IfOk result (λ r. IsNone r
-        → IsUnnamed (C.content files.now.certificate.now)) }
+) -> Result<OpenFiles<'a, S, O, C>, CertFault>
+    ensures session { IfOk result (λ opened. opened.session.now ≡ files.now.session.now) }
+    ensures object { IfOk result (λ opened. opened.object.now ≡ files.now.object.now) }
+    ensures certificate { IfOk result (λ opened.
+        opened.certificate.file.now ≡ files.now.certificate.now) }
     ensures fault { IfErr result (IsNoCertificate (C.content files.now.certificate.now)
         (C.reliable files.now.certificate.now)) }
 {
-    match NamedCertificate::open(files.certificate) {
-        Ok(Some(certificate)) => Ok(Some(NamedFiles {
+    match CertificateFile::open(files.certificate) {
+        Ok(certificate) => Ok(OpenFiles {
             session: files.session,
             object: files.object,
             certificate,
-        })),
-        Ok(None) => Ok(None),
+        }),
         Err(fault) => Err(fault),
     }
 }
 
-/// The check of an identity's packets in a session file, of an object and of a certificate, as
-/// [`cert::check_from`] does it, with the same verdict. `None` where the certificate has no name:
-/// its coefficients stand column by column then. Of the files no more is held than a block and 24
-/// bytes for each datagram. The session's frames are gone over first, and its symbols are read
-/// again, block by block.
+/// The check of an identity's packets in a session file, of an object and of a certificate. Of the
+/// files no more is held than a block and 24 bytes for each datagram. The session's frames are gone
+/// over first, and its symbols are read again, block by block.
 pub fn check_files<S: ReadAt, O: ReadAt, C: ReadAt>(
     alloc: Global,
     files: &Files<'_, S, O, C>,
     identity: Identity,
-) -> Result<Option<Verdict>, CheckFault>
-    ensures verdict { WhereTold (S.content files.now.session.now)
+) -> Result<Checked, CheckFault>
+    ensures checked { WhereTold (S.content files.now.session.now)
         (O.content files.now.object.now) (C.content files.now.certificate.now)
-        (λ x o text. IfOk result (λ r. IfSome r (IsVerdictIn identity x o text))) }
-    ensures some { IfOk result (λ r. IfSome r (IsVerdictOnSome identity)) }
-    ensures unnamed { IfOk result (λ r. IsNone r
-        → IsUnnamed (C.content files.now.certificate.now)) }
+        (λ x o text. IfOk result (HasChecked identity x o text)) }
+    ensures some { IfOk result (HasCheckedSome identity) }
     ensures untold { IfErr result (IsFaultUntold (S.reliable files.now.session.now)
         (C.content files.now.certificate.now) (C.reliable files.now.certificate.now)) }
     ensures fault { WhereTold (S.content files.now.session.now)
@@ -333,100 +313,87 @@ pub fn check_files<S: ReadAt, O: ReadAt, C: ReadAt>(
           certificate = C.reliable files.now.certificate.now;
         }) x o text)) }
 {
-    let Some((verdict, _)) = check_for_twin(alloc, files, identity)? else {
-        return Ok(None);
-    };
-    Ok(Some(verdict))
-}
-
-/// The check as [`check_files`] does it, and at a yes, and only there, what a picture shows beside
-/// the report.
-pub fn survey_files<S: ReadAt, O: ReadAt, C: ReadAt>(
-    alloc: Global,
-    files: &Files<'_, S, O, C>,
-    identity: Identity,
-) -> Result<Option<(Verdict, Option<Survey>)>, CheckFault>
-    ensures verdict { WhereTold (S.content files.now.session.now)
-        (O.content files.now.object.now) (C.content files.now.certificate.now)
-        (λ x o text. IfOk result (λ r. IfSome r (λ found.
-        IsSurveyIn identity x o text found.0 found.1))) }
-    ensures some { IfOk result (λ r. IfSome r (λ found.
-        IsSurveyOnSome identity found.0 found.1)) }
-    ensures unnamed { IfOk result (λ r. IsNone r
-        → IsUnnamed (C.content files.now.certificate.now)) }
-    ensures untold { IfErr result (IsFaultUntold (S.reliable files.now.session.now)
-        (C.content files.now.certificate.now) (C.reliable files.now.certificate.now)) }
-    ensures fault { WhereTold (S.content files.now.session.now)
-        (O.content files.now.object.now) (C.content files.now.certificate.now)
-        (λ x o text. IfErr result (IsFilesFault identity
-        (record {
-          session = S.reliable files.now.session.now;
-          object = O.reliable files.now.object.now;
-          certificate = C.reliable files.now.certificate.now;
-        }) x o text)) }
-{
-    let named = match named(files) {
-        Ok(Some(named)) => named,
-        Ok(None) => return Ok(None),
+    let opened = match opened(files) {
+        Ok(opened) => opened,
         Err(fault) => return Err(CheckFault::Certificate(fault)),
     };
-    match tally_files(alloc, &named, identity)? {
-        Ok(tally) => Ok(Some(tally.survey(alloc)?)),
-        Err(reason) => Ok(Some((Verdict::No(reason), None))),
+    let found = tally_files(alloc, &opened, identity)?;
+    Ok(Checked {
+        fti: opened.certificate.fti,
+        found,
+    })
+}
+
+/// What a check of files has found, which answers what is asked of it.
+#[derive(Drop)]
+pub struct Checked {
+    fti: Fti,
+    // The tally of all datagrams, or the first reason for which they, or the object, aren't as the
+    // certificate has them.
+    found: Result<Tally, Reason>,
+}
+
+impl Checked {
+    ghost use Rattle.file_check.specs.Answers.{HasChecked, HasCheckedSome};
+
+    /// The verdict, which is that of [`cert::check_from`]. Want of memory is the only error.
+    pub fn verdict(&self, alloc: Global) -> Result<Verdict, AllocError>
+        requires { (who : IdentityValue) × HasCheckedSome who self.now }
+        ensures verdict { (who : IdentityValue) (x o text : List ℕ)
+            → HasChecked who x o text self.now → IfOk result (IsVerdictIn who x o text) }
+        ensures some { (who : IdentityValue) → HasCheckedSome who self.now
+            → IfOk result (IsVerdictOnSome who) }
+    {
+        match &self.found {
+            Ok(tally) => tally.verdict(alloc),
+            Err(reason) => Ok(Verdict::No(*reason)),
+        }
     }
-}
 
-/// The check as [`check_files`] does it, and where a block is short, and only there, what a twin is
-/// made of beside the object: a twin that `cert::write_twin` makes of it agrees with all of the
-/// identity's packets in the session.
-pub fn check_for_twin<S: ReadAt, O: ReadAt, C: ReadAt>(
-    alloc: Global,
-    files: &Files<'_, S, O, C>,
-    identity: Identity,
-) -> Result<Option<(Verdict, Option<ShortBlock>)>, CheckFault>
-    ensures verdict { WhereTold (S.content files.now.session.now)
-        (O.content files.now.object.now) (C.content files.now.certificate.now)
-        (λ x o text. IfOk result (λ r. IfSome r (λ found.
-        IsTwinnedIn identity x o text found.0 found.1))) }
-    ensures some { IfOk result (λ r. IfSome r (λ found.
-        IsVerdictOnSome identity found.0)) }
-    ensures short { IfOk result (λ r. IfSome r (λ found. IsShortFound found.0 found.1)) }
-    ensures unnamed { IfOk result (λ r. IsNone r
-        → IsUnnamed (C.content files.now.certificate.now)) }
-    ensures untold { IfErr result (IsFaultUntold (S.reliable files.now.session.now)
-        (C.content files.now.certificate.now) (C.reliable files.now.certificate.now)) }
-    ensures fault { WhereTold (S.content files.now.session.now)
-        (O.content files.now.object.now) (C.content files.now.certificate.now)
-        (λ x o text. IfErr result (IsFilesFault identity
-        (record {
-          session = S.reliable files.now.session.now;
-          object = O.reliable files.now.object.now;
-          certificate = C.reliable files.now.certificate.now;
-        }) x o text)) }
-{
-    let named = match named(files) {
-        Ok(Some(named)) => named,
-        Ok(None) => return Ok(None),
-        Err(fault) => return Err(CheckFault::Certificate(fault)),
-    };
-    let tally = match tally_files(alloc, &named, identity)? {
-        Ok(tally) => tally,
-        Err(reason) => return Ok(Some((Verdict::No(reason), None))),
-    };
-    let reason = match tally.verdict(alloc)? {
-        Verdict::Yes(report) => return Ok(Some((Verdict::Yes(report), None))),
-        Verdict::No(reason) => reason,
-    };
-    let Some((block, have, need)) = reason.short_block() else {
-        return Ok(Some((Verdict::No(reason), None)));
-    };
-    let arrived_esis = tally.esis(alloc, block)?;
-    let short = ShortBlock {
-        block,
-        have,
-        need,
-        fti: named.certificate.fti,
-        arrived_esis,
-    };
-    Ok(Some((Verdict::No(reason), Some(short))))
+    /// The verdict, and at a yes, and only there, what a picture shows beside the report.
+    pub fn survey(&self, alloc: Global) -> Result<(Verdict, Option<Survey>), AllocError>
+        requires { (who : IdentityValue) × HasCheckedSome who self.now }
+        ensures verdict { (who : IdentityValue) (x o text : List ℕ)
+            → HasChecked who x o text self.now
+            → IfOk result (λ found. IsSurveyIn who x o text found.0 found.1) }
+        ensures some { (who : IdentityValue) → HasCheckedSome who self.now
+            → IfOk result (λ found. IsSurveyOnSome who found.0 found.1) }
+    {
+        match &self.found {
+            Ok(tally) => tally.survey(alloc),
+            Err(reason) => Ok((Verdict::No(*reason), None)),
+        }
+    }
+
+    /// The verdict, and where a block is short, and only there, what a twin is made of beside the
+    /// object: a twin that `cert::write_twin` makes of it agrees with all of the identity's packets
+    /// in the session.
+    pub fn short_block(&self, alloc: Global) -> Result<(Verdict, Option<ShortBlock>), AllocError>
+        requires { (who : IdentityValue) × HasCheckedSome who self.now }
+        ensures verdict { (who : IdentityValue) (x o text : List ℕ)
+            → HasChecked who x o text self.now
+            → IfOk result (λ found. IsTwinnedIn who x o text found.0 found.1) }
+        ensures short { IfOk result (λ found. IsShortFound found.0 found.1) }
+    {
+        let tally = match &self.found {
+            Ok(tally) => tally,
+            Err(reason) => return Ok((Verdict::No(*reason), None)),
+        };
+        let reason = match tally.verdict(alloc)? {
+            Verdict::Yes(report) => return Ok((Verdict::Yes(report), None)),
+            Verdict::No(reason) => reason,
+        };
+        let Some((block, have, need)) = reason.short_block() else {
+            return Ok((Verdict::No(reason), None));
+        };
+        let arrived_esis = tally.esis(alloc, block)?;
+        let short = ShortBlock {
+            block,
+            have,
+            need,
+            fti: self.fti,
+            arrived_esis,
+        };
+        Ok((Verdict::No(reason), Some(short)))
+    }
 }

@@ -1,10 +1,9 @@
 //! The check of a session file, an object and a certificate, of which nothing is held but a block.
 //!
 //! ```
-//! match check_files(alloc, &files, IDENTITY)? {
-//!     Some(Verdict::Yes(report)) => println!(rt; "margin {}", report.margin)?,
-//!     Some(Verdict::No(reason)) => println!(rt; "no {reason:?}")?,
-//!     None => println!(rt; "the certificate has no name")?,
+//! match check_files(alloc, &files, IDENTITY)?.verdict(alloc)? {
+//!     Verdict::Yes(report) => println!(rt; "margin {}", report.margin)?,
+//!     Verdict::No(reason) => println!(rt; "no {reason:?}")?,
 //! }
 //! ```
 //!
@@ -31,4 +30,4 @@ mod extents;
 mod index;
 mod members;
 
-pub use checking::{Files, ShortBlock, check_files, check_for_twin, survey_files};
+pub use checking::{Checked, Files, ShortBlock, check_files};

@@ -8,8 +8,8 @@ use crate::file_tests::{Bytes, CHANGES, Changing, FOUR_BYTES, framed, two_blocks
 use crate::receiver_tests::{ORDERS, disturbed, object_of, sent};
 use cert::{CheckFault, Report, Verdict, check_from};
 use certificate::{CertFault, Certificate};
-use coder::certify_to;
-use file_check::{Files, check_files, survey_files};
+use coder::{certify, certify_to};
+use file_check::{Files, check_files};
 use partition::Fti;
 use rand_pcg::Pcg32;
 use reception::Identity;
@@ -56,12 +56,12 @@ fn read(alloc: Global, held: Held<'_>, identity: Identity) -> Result<Verdict, Ch
     check_from(alloc, &mut frames, held.object, &certificate, identity)
 }
 
-// What one of the files answers, with a survey at a yes and without.
+// What the files answer, with a survey and without, and whether there is one.
 fn stood(
     alloc: Global,
     held: Held<'_>,
     identity: Identity,
-) -> Result<Option<(Verdict, Verdict)>, CheckFault> {
+) -> Result<(Verdict, Verdict, bool), CheckFault> {
     let (session, object) = (Bytes(held.session), Bytes(held.object));
     let certificate = Bytes(held.certificate);
     let files = Files {
@@ -69,27 +69,18 @@ fn stood(
         object: &object,
         certificate: &certificate,
     };
-    let Some(verdict) = check_files(alloc, &files, identity)? else {
-        return Ok(None);
-    };
-    match survey_files(alloc, &files, identity)? {
-        Some((surveyed, Some(_))) => match surveyed {
-            Verdict::Yes(_) => Ok(Some((verdict, surveyed))),
-            Verdict::No(_) => Ok(None),
-        },
-        Some((surveyed, None)) => match surveyed {
-            Verdict::Yes(_) => Ok(None),
-            Verdict::No(_) => Ok(Some((verdict, surveyed))),
-        },
-        None => Ok(None),
-    }
+    let checked = check_files(alloc, &files, identity)?;
+    let (surveyed, survey) = checked.survey(alloc)?;
+    Ok((checked.verdict(alloc)?, surveyed, survey.is_some()))
 }
 
-// Whether both answer the same.
+// Whether both answer the same, with a survey at a yes and only there.
 fn is_same(alloc: Global, held: Held<'_>, identity: Identity) -> bool {
     match (read(alloc, held, identity), stood(alloc, held, identity)) {
-        (Ok(verdict), Ok(Some((there, surveyed)))) => {
-            is_same_verdict(&verdict, &there) && is_same_verdict(&verdict, &surveyed)
+        (Ok(verdict), Ok((there, surveyed, has_survey))) => {
+            is_same_verdict(&verdict, &there)
+                && is_same_verdict(&verdict, &surveyed)
+                && has_survey == matches!(verdict, Verdict::Yes(_))
         }
         (Err(fault), Err(there)) => fault == there,
         _ => false,
@@ -100,6 +91,13 @@ fn is_same(alloc: Global, held: Held<'_>, identity: Identity) -> bool {
 fn certificate_of(alloc: Global, object: &[u8], fti: &Fti) -> Result<Vec<u8>, Fail> {
     let mut sink = Sink::new(alloc);
     certify_to(alloc, object, fti, ONE, &mut sink)?;
+    Ok(sink.into_bytes())
+}
+
+// The same without a name, whose coefficients stand column by column.
+fn plain_certificate_of(alloc: Global, object: &[u8], fti: &Fti) -> Result<Vec<u8>, Fail> {
+    let mut sink = Sink::new(alloc);
+    certify(alloc, object, fti)?.write(&mut sink)?;
     Ok(sink.into_bytes())
 }
 
@@ -147,17 +145,20 @@ fn same_in_all(alloc: Global, length: usize, fti: &Fti, every: u32) -> Result<bo
     let mut random = Pcg32::new(length as u64, 5510);
     let object = object_of(alloc, &mut random, length)?;
     let session = sent(alloc, object.as_slice(), fti, every)?;
-    let certificate = certificate_of(alloc, object.as_slice(), fti)?;
+    let named = certificate_of(alloc, object.as_slice(), fti)?;
+    let plain = plain_certificate_of(alloc, object.as_slice(), fti)?;
     for place in 0..ORDERS {
         let datagrams = disturbed(alloc, &mut random, &session)?;
         let bytes = framed(alloc, datagrams.as_slice())?;
-        let held = Held {
-            session: bytes.as_slice(),
-            object: object.as_slice(),
-            certificate: certificate.as_slice(),
-        };
-        if !is_same(alloc, held, ONE) || !same_where_changed(alloc, held, place)? {
-            return Ok(false);
+        for certificate in [named.as_slice(), plain.as_slice()] {
+            let held = Held {
+                session: bytes.as_slice(),
+                object: object.as_slice(),
+                certificate,
+            };
+            if !is_same(alloc, held, ONE) || !same_where_changed(alloc, held, place)? {
+                return Ok(false);
+            }
         }
     }
     Ok(true)
@@ -251,14 +252,15 @@ fn of_other_files(rt: HostRuntime) -> Result<(), Fail> {
     Ok(())
 }
 
-// A certificate without a name stands column by column, and isn't checked where it stands.
+// A certificate without a name, whichever identity is asked for.
 #[test]
 fn without_a_name(rt: HostRuntime) -> Result<(), Fail> {
     let held = Held {
         certificate: &CERTIFICATE,
         ..small(&SESSION)
     };
-    assert!(rt; matches!(stood(rt.alloc(), held, ONE), Ok(None)));
+    assert!(rt; is_same(rt.alloc(), held, ONE));
+    assert!(rt; is_same(rt.alloc(), held, Identity { tsi: 1, toi: 2 }));
     Ok(())
 }
 

@@ -3,13 +3,15 @@ use Rattle.request.specs.declared.requests.Request.TheVariants.{Twin}
 use Rattle.commands.specs.Doing.{HasStopped}
 use Rattle.commands.specs.declared.fault.Fault.{Fault}
 use Rattle.commands.proofs.Stopping.{by_unread, passed_on, stopped}
-use Rattle.check_commands.proofs.TwinnedFiles.{changed_since, found_each, unfound}
+use Rattle.check_commands.proofs.TwinnedFiles.{changed_since, found_of, unfound}
 use Rattle.check_commands.proofs.twin.found_in.Goals as goal
 
-pub returns-in_ok-see_files-in-Ok-clause-found : goal.returns-in_ok-see_files-in-Ok-clause-found
-returns-in_ok-see_files-in-Ok-clause-found g c =
-    found_each (g.H.Host.world c.args.host.now) c.args.request.now _ _ _ _ _ _ c.requires.session c.requires.object c.requires.certificate c.requires.framed c.in-Ok.found
-    c.in-Ok.ensures.verdict c.in-Ok.ensures.short
+pub returns-in_ok-short_block-in-Ok-clause-found : goal.returns-in_ok-short_block-in-Ok-clause-found
+returns-in_ok-short_block-in-Ok-clause-found g c =
+    let found = c.in_ok-short_block-in-Ok.field-0 in
+    let told = c.in_ok-short_block-in-Ok.ensures in
+    found_of (g.H.Host.world c.args.host.now) c.args.request.now _ _ _ _ _ _ c.requires.session c.requires.object c.requires.certificate c.requires.framed found.0 found.1
+    (λ x o text sx so st. told.verdict c.args.request.now.identity x o text (c.in-Ok.ensures.checked x o text sx so st)) told.short
 
 pub returns-in-Err-clause-fault : goal.returns-in-Err-clause-fault
 returns-in-Err-clause-fault g c =

@@ -1,22 +1,22 @@
 use Rattle.std.proofs.Common.{◌≡◌, ◌∙◌, None, length, refl, sym}
 use Rattle.reception.specs.Symbols.{IsObject}
-use Rattle.certificate.specs.Certificate.{named_in}
+use Rattle.certificate.specs.InFile.{certificate_in}
 use Rattle.cert.specs.Tallying.{nothing, tallied_of}
 use Rattle.cert.specs.declared.verdict.Reason.TheVariants.{OtherCertificate, ObjectLength}
 use Rattle.cert.proofs.DatagramSteps.{fti_holds}
 use Rattle.certificate.proofs.Results.{passed_on}
-use Rattle.file_check.proofs.WholeTallies.{against_blocks, before, early_reason, equal, file_fault, gives_object, index_of, not_equal, refused, refused_next, untold_fault, whole_tally}
+use Rattle.file_check.proofs.WholeTallies.{against_blocks, before, early_reason, file_fault, gives_object, index_of, refused, refused_next, untold_fault, whole_tally}
 use Rattle.file_check.proofs.checking.tally_files.Goals as goal
 
-pub returns-then-ne-clause-no : goal.returns-then-ne-clause-no
-returns-then-ne-clause-no g c = λ x o text sx so st.
-    before c.args.identity x o (named_in text c.args.files.now.certificate.fti c.args.files.now.certificate.name) OtherCertificate (not_equal _ (sym c.ne.ensures ∙ c.if-ne.true))
+pub returns-then-not-is_for-clause-found : goal.returns-then-not-is_for-clause-found
+returns-then-not-is_for-clause-found g c = λ x o text sx so st.
+    before c.args.identity x o (certificate_in text c.args.files.now.certificate.fti c.args.files.now.certificate.name) OtherCertificate (sym c.is_for.ensures ∙ c.if-not-is_for.true)
 
-pub returns-in-Ok-false-clause-no : goal.returns-in-Ok-false-clause-no
-returns-in-Ok-false-clause-no g c = λ x o text sx so st. (
+pub returns-in-Ok-false-clause-found : goal.returns-in-Ok-false-clause-found
+returns-in-Ok-false-clause-found g c = λ x o text sx so st. (
     let told = rw so at c.in-Ok-false.ensures.told in
-    before c.args.identity x o (named_in text c.args.files.now.certificate.fti c.args.files.now.certificate.name) ObjectLength
-    (equal _ (sym c.ne.ensures ∙ c.if-ne.false), λ e. (let has = told.1 (e ∙ sym c.transfer_length.ensures.value) in absurd (cc))))
+    before c.args.identity x o (certificate_in text c.args.files.now.certificate.fti c.args.files.now.certificate.name) ObjectLength
+    (sym c.is_for.ensures ∙ c.if-not-is_for.false, λ e. (let has = told.1 (e ∙ sym c.transfer_length.ensures.value) in absurd (cc))))
 
 pub compare_blocks-requires-clause-known : goal.compare_blocks-requires-clause-known
 compare_blocks-requires-clause-known g c =
@@ -26,7 +26,7 @@ compare_blocks-requires-clause-known g c =
 pub returns-in_err-reason-clause-fault : goal.returns-in_err-reason-clause-fault
 returns-in_err-reason-clause-fault g c = λ x o text sx so st. (
     let f = c.args.files.now.certificate.fti in
-    let z = named_in text f c.args.files.now.certificate.name in
+    let z = certificate_in text f c.args.files.now.certificate.name in
     let who = c.args.identity in
     let sound = g.S.ReadAt.reliable c.args.files.now.session.now in
     let is = c.in_ok-index.ensures.told x sx in
@@ -41,10 +41,10 @@ returns-in_err-reason-clause-fault g c = λ x o text sx so st. (
       certificate = g.C.ReadAt.reliable c.args.files.now.certificate.file.now;
     }) c.in_err-reason.field-0.0 (c.in_err-reason.ensures.fault x o text sx so st is.datagrams index long)))
 
-pub returns-in-Some-clause-no : goal.returns-in-Some-clause-no
-returns-in-Some-clause-no g c = λ x o text sx so st. (
+pub returns-in-Some-clause-found : goal.returns-in-Some-clause-found
+returns-in-Some-clause-found g c = λ x o text sx so st. (
     let f = c.args.files.now.certificate.fti in
-    let z = named_in text f c.args.files.now.certificate.name in
+    let z = certificate_in text f c.args.files.now.certificate.name in
     let who = c.args.identity in
     let sound = g.S.ReadAt.reliable c.args.files.now.session.now in
     let is = c.in_ok-index.ensures.told x sx in
@@ -53,25 +53,30 @@ returns-in-Some-clause-no g c = λ x o text sx so st. (
     let form : IsObject f o = record { count = long; bytes = rw so at c.in-Ok-true.ensures.each } in
     let index = index_of who x o z sound c.in_ok-index.index c.in_ok-index.end is in
     let against = rw c.in-Some.is at (c.in_ok-reason.ensures.against x o text sx so st is.datagrams index long) in
-    against_blocks who x o z sound c.in_ok-index.index c.in_ok-index.end is c.in-Some.reason against (equal _ (sym c.ne.ensures ∙ c.if-ne.false)) form)
+    against_blocks who x o z sound c.in_ok-index.index c.in_ok-index.end is c.in-Some.reason against (sym c.is_for.ensures ∙ c.if-not-is_for.false) form)
 
-pub returns-in-File-clause-tally : goal.returns-in-File-clause-tally
-returns-in-File-clause-tally g c = λ x o text sx so st. (
+pub returns-in-File-clause-found : goal.returns-in-File-clause-found
+returns-in-File-clause-found g c = λ x o text sx so st. (
     let f = c.args.files.now.certificate.fti in
-    let z = named_in text f c.args.files.now.certificate.name in
+    let z = certificate_in text f c.args.files.now.certificate.name in
     let who = c.args.identity in
     let sound = g.S.ReadAt.reliable c.args.files.now.session.now in
     let is = c.in_ok-index.ensures.told x sx in
     let told = rw so at c.in-Ok-true.ensures.told in
     let long : length o ≡ f.transfer_length = told.0 c.in-Ok-true.field-0-test ∙ c.transfer_length.ensures.value in
+    let form : IsObject f o = record { count = long; bytes = rw so at c.in-Ok-true.ensures.each } in
     let index = index_of who x o z sound c.in_ok-index.index c.in_ok-index.end is in
-    let are = c.in_ok-reason.ensures.compared x o text sx so st is.datagrams index long (rw c.in_default.is refl) in
-    whole_tally who x o z sound c.in_ok-index.index c.in_ok-index.end is are c.args.files.now.certificate.valid (rw c.in-File.is at is.ends))
+    let are = c.in_ok-reason.ensures.compared x o text sx so st is.datagrams index long (rw c.in_default.is refl) in (
+      whole_tally who x o z sound c.in_ok-index.index c.in_ok-index.end is are c.args.files.now.certificate.valid (rw c.in-File.is at is.ends),
+      sym c.is_for.ensures ∙ c.if-not-is_for.false,
+      form,
+      gives_object who x o z sound c.in_ok-index.index c.in_ok-index.end is None are,
+    ))
 
-pub returns-in-File-clause-given : goal.returns-in-File-clause-given
-returns-in-File-clause-given g c = λ x o text sx so st. (
+pub returns-in-Reason-clause-found : goal.returns-in-Reason-clause-found
+returns-in-Reason-clause-found g c = λ x o text sx so st. (
     let f = c.args.files.now.certificate.fti in
-    let z = named_in text f c.args.files.now.certificate.name in
+    let z = certificate_in text f c.args.files.now.certificate.name in
     let who = c.args.identity in
     let sound = g.S.ReadAt.reliable c.args.files.now.session.now in
     let is = c.in_ok-index.ensures.told x sx in
@@ -80,21 +85,7 @@ returns-in-File-clause-given g c = λ x o text sx so st. (
     let form : IsObject f o = record { count = long; bytes = rw so at c.in-Ok-true.ensures.each } in
     let index = index_of who x o z sound c.in_ok-index.index c.in_ok-index.end is in
     let are = c.in_ok-reason.ensures.compared x o text sx so st is.datagrams index long (rw c.in_default.is refl) in
-    (equal _ (sym c.ne.ensures ∙ c.if-ne.false), form, gives_object who x o z sound c.in_ok-index.index c.in_ok-index.end is None are))
-
-pub returns-in-Reason-clause-no : goal.returns-in-Reason-clause-no
-returns-in-Reason-clause-no g c = λ x o text sx so st. (
-    let f = c.args.files.now.certificate.fti in
-    let z = named_in text f c.args.files.now.certificate.name in
-    let who = c.args.identity in
-    let sound = g.S.ReadAt.reliable c.args.files.now.session.now in
-    let is = c.in_ok-index.ensures.told x sx in
-    let told = rw so at c.in-Ok-true.ensures.told in
-    let long : length o ≡ f.transfer_length = told.0 c.in-Ok-true.field-0-test ∙ c.transfer_length.ensures.value in
-    let form : IsObject f o = record { count = long; bytes = rw so at c.in-Ok-true.ensures.each } in
-    let index = index_of who x o z sound c.in_ok-index.index c.in_ok-index.end is in
-    let are = c.in_ok-reason.ensures.compared x o text sx so st is.datagrams index long (rw c.in_default.is refl) in
-    refused_next who x o z sound c.in_ok-index.index c.in_ok-index.end is are (equal _ (sym c.ne.ensures ∙ c.if-ne.false)) form c.in-Reason.reason (rw c.in-Reason.is at is.ends))
+    refused_next who x o z sound c.in_ok-index.index c.in_ok-index.end is are (sym c.is_for.ensures ∙ c.if-not-is_for.false) form c.in-Reason.reason (rw c.in-Reason.is at is.ends))
 
 pub returns-in-Reason-clause-early : goal.returns-in-Reason-clause-early
 returns-in-Reason-clause-early g c =
@@ -104,7 +95,7 @@ returns-in-Reason-clause-early g c =
 pub returns-in-Frame-clause-fault : goal.returns-in-Frame-clause-fault
 returns-in-Frame-clause-fault g c = λ x o text sx so st. (
     let f = c.args.files.now.certificate.fti in
-    let z = named_in text f c.args.files.now.certificate.name in
+    let z = certificate_in text f c.args.files.now.certificate.name in
     let who = c.args.identity in
     let sound = g.S.ReadAt.reliable c.args.files.now.session.now in
     let is = c.in_ok-index.ensures.told x sx in
@@ -113,7 +104,7 @@ returns-in-Frame-clause-fault g c = λ x o text sx so st. (
     let form : IsObject f o = record { count = long; bytes = rw so at c.in-Ok-true.ensures.each } in
     let index = index_of who x o z sound c.in_ok-index.index c.in_ok-index.end is in
     let are = c.in_ok-reason.ensures.compared x o text sx so st is.datagrams index long (rw c.in_default.is refl) in
-    refused who x o z sound c.in_ok-index.index c.in_ok-index.end is are (equal _ (sym c.ne.ensures ∙ c.if-ne.false)) form c.in-Frame.fault (rw c.in-Frame.is at is.ends))
+    refused who x o z sound c.in_ok-index.index c.in_ok-index.end is are (sym c.is_for.ensures ∙ c.if-not-is_for.false) form c.in-Frame.fault (rw c.in-Frame.is at is.ends))
 
 pub returns-in-Frame-clause-untold : goal.returns-in-Frame-clause-untold
 returns-in-Frame-clause-untold g c =

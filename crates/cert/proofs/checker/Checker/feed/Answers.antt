@@ -24,7 +24,7 @@ returns-clause-fed c = λ who object z ds fed.
       each = one_more who object z ds d here fed.each;
       stands =
           rw ended
-          (stands_after who object z ds d here fed.each c.args.self.now.walk c.step-answer.new.self over e.identity e.certificate e.object c.in_ok-answer.field-0 (e.passed ds over.walked)
+          (stands_after who object z ds d here fed.each c.args.self.now _ over e.identity e.certificate e.object c.in_ok-answer.field-0 (e.passed ds over.walked)
           (e.against ds over.walked));
     }
 
@@ -34,4 +34,4 @@ returns-clause-reason c = λ who object z ds fed.
     let here : IsDatagram d = record { short = omega (arith, c.if-datagram-gt-MOST_BYTES.false); bytes = c.are_bytes.ensures } in
     let over = goes_on c.args.self.now who object z ds c.in_default.is fed in
     let e = c.in_ok-answer.ensures in
-    reason_after who object z ds d here fed.each c.args.self.now.walk c.step-answer.new.self over e.identity e.certificate e.object c.in_ok-answer.field-0 (e.passed ds over.walked) (e.against ds over.walked)
+    reason_after who object z ds d here fed.each c.args.self.now c.step-answer.new.self over e.identity e.certificate e.object c.in_ok-answer.field-0 (e.passed ds over.walked) (e.against ds over.walked)
