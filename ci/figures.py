@@ -109,29 +109,13 @@ def constants():
     for name in ("docs/OPERATING.md", "docs/EMBEDDING.md"):
         yield name, r"up to (\d+) MiB of repair symbols", [batch]
     values = constant("crates/block_code/src/codes.rt", r"LEAST_BY_VALUES: usize = (\d+);")
-    yield "docs/DECISIONS.md", r"It begins at (\d+) source symbols", [values]
-    yield "docs/BENCHMARKS.md", r"So it begins at (\d+)\.", [values]
+    yield "docs/BENCHMARKS.md", r"from (\d+) source symbols on", [values]
     products = constant("crates/evaluation/src/values.rt", r"MOST_PRODUCTS: usize = (\d+);")
-    yield "docs/DECISIONS.md", r"Up to ([\d,]+) products of rows", [products]
-    yield "docs/BENCHMARKS.md", r"it is used above ([\d,]+)\.", [products]
-    yield from constants_of_sums()
-    yield from constants_of_files(batch, group)
-
-
-def constants_of_sums():
-    """Limits by which sums of products and lists are made one way or another."""
-    name = "crates/gf256/src/products.rt"
-    few, many, some, wide, most = (
-        constant(name, rf"^const {it}: usize = (\d+);")
-        for it in ("FEW_SOURCES", "MANY_ROWS", "SOME_ROWS", "WIDE_BYTES", "MOST_ROWS")
-    )
-    yield "docs/DECISIONS.md", r"these above (\d+) sources from (\d+) outputs on", [few, many]
-    yield "docs/DECISIONS.md", r"from (\d+) in rows of (\d+) bytes or more", [some, wide]
-    yield "docs/DECISIONS.md", r"Up to (\d+) outputs are made of it", [most]
-    lists, values = re.search(r"max 1 \(min (\d+) \((\d+) / max 1 length\)\)",
-                              text_of("crates/shared_lists/src/sharing.rt")).groups()
-    yield "docs/DECISIONS.md", r"where all come, and (\d+) at most;", [int(lists)]
+    yield "docs/BENCHMARKS.md", r"by the transform above ([\d,]+) products", [products]
+    values = re.search(r"max 1 \(min \d+ \((\d+) / max 1 length\)\)",
+                       text_of("crates/shared_lists/src/sharing.rt")).group(1)
     yield "docs/DECISIONS.md", r"are moved: (\d+) at most, as", [int(values) - 2]
+    yield from constants_of_files(batch, group)
 
 
 def constants_of_files(batch, group):
@@ -140,21 +124,15 @@ def constants_of_files(batch, group):
     line, lane = (constant("crates/streams/src/ahead.rt", shift.format(it))
                   for it in ("LINE_BYTES", "LANE_BYTES"))
     kept = constant("crates/alcrs/src/words.rt", shift.format("KEPT_BYTES"))
-    buffer = constant(
-        "crates/program_host/src/program.rt", r"^pub const BUFFER_SIZE: usize = ([\d_]+);"
-    )
     runs = constant("crates/encoder/src/rounds_from.rt", r"^const LONG_RUN_BLOCKS: usize = (\d+);")
     yield "docs/DECISIONS.md", r"One more lane, of (\d+) KiB", [2 ** line >> 10]
     for name in ("docs/ARCHITECTURE.md", "docs/DECISIONS.md"):
         yield name, r"(\d+) KiB ahead", [2 ** lane >> 10]
     yield "docs/ARCHITECTURE.md", r"`rounds\.rt`\), where (\d+) MiB hold them", [batch]
-    for words in ("many rounds as take", "two rounds take more than", "a pass over it for every"):
-        yield "docs/DECISIONS.md", rf"{words} (\d+) MiB", [batch]
+    yield "docs/DECISIONS.md", r"many rounds as take (\d+) MiB", [batch]
     yield "docs/ARCHITECTURE.md", r"1\.25 to (\d+) MiB of encoding", [group]
-    yield "docs/DECISIONS.md", r"never takes more than (\d+) MiB", [group]
-    yield "docs/DECISIONS.md", r"1\.25 MiB, or (\d+) blocks", [runs]
+    yield "docs/OPERATING.md", r"as much as (\d+) blocks", [runs]
     yield "docs/DECISIONS.md", r"The program takes (\d+) MiB once", [2 ** kept >> 20]
-    yield "docs/DECISIONS.md", r"have a buffer of (\d+) KiB", [buffer >> 10]
     memory = constant("scripts/build.py", r"^MEMORY = (\d+) << 30$")
     yield "CONTRIBUTING.md", r"up to (\d+) GiB of memory", [memory]
     room = constant("ci/claims.py", r"^ROOM = (\d+) << 20$")
@@ -216,7 +194,6 @@ def counted():
     yield "docs/ASSURANCE.md", r"One transcript has (\d+) deliberate", [errors]
     yield "docs/DECISIONS.md", r"One transcript has (\d+) deliberate", [errors]
     yield "docs/ASSURANCE.md", r"It tries ([\d,]+) datagrams, each", [many]
-    yield "docs/DECISIONS.md", r"in each of ([\d,]+) TOIs", [many]
     yield "docs/ASSURANCE.md", r"sessions of (\d+) MiB decoded", [large * have // need]
     yield "ci/README.md", r"sessions of (\d+) MiB in (\d+) MiB", [large * have // need, held]
     for name, size in sizes:
@@ -230,7 +207,6 @@ def counted_in_crates():
                       re.M | re.S).group(1)
     kinds = len(re.findall(r"^    [A-Z]\w*", kinds, re.M))
     yield "docs/THEOREMS.md", r"the (\w+) kinds of arguments", [kinds]
-    yield "docs/DECISIONS.md", r"An argument is one of (\w+) kinds", [kinds]
     told = text_of("crates/commands/specs/Summary.antt")
     summary = told.partition("summary_text report weakest =")
     yield "docs/OPERATING.md", r"prints (\w+) lines in all", [
