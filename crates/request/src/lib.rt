@@ -1,9 +1,9 @@
 //! The command line of alcrs: its grammar, its help, and the request that its words make.
 //!
 //! ```
-//! let line = command_line(alloc, &views);
+//! let line = command_line(alloc, words);
 //! if let Ok(line) = &line {
-//!     begin(&rt, line, &mut host);
+//!     begin(rt, line, host);
 //! }
 //! ```
 //!
