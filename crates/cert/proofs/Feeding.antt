@@ -141,9 +141,6 @@ module _ (checker : Checker) (who : Identity) (object : List ℕ) (z : Certifica
   pub fed_with_reason : (r : Reason) → checker.ended ≡ Some (Ok r) → AreDatagrams ds → IsNoToAll who ds object z r → IsFed checker who object z ds
   fed_with_reason r ended each h = record { each = each; stands = subst (λ (e : Option (Result Reason AllocError)). StandsAt e checker who object z ds) (sym ended) h }
 
-  pub fed_on : checker.ended ≡ None → AreDatagrams ds → IsWalkOver checker who object z ds → IsFed checker who object z ds
-  fed_on ended each h = record { each = each; stands = subst (λ (e : Option (Result Reason AllocError)). StandsAt e checker who object z ds) (sym ended) h }
-
 -- ---- what was read
 
 module _ (checker : Checker) (who : Identity) (object : List ℕ) (z : Certificate) (old new : Option (List ℕ)) (h : HasRead checker who object z old new) where

@@ -45,13 +45,6 @@ pub nothing_consumed : (a : Option (List ℕ)) → Consumes a a []
 nothing_consumed None = tt
 nothing_consumed (Some xs) = refl
 
--- nothing more
-pub consumes_none : (a b c : Option (List ℕ)) (ds : List (List ℕ)) → Consumes a b (frames ds) → Consumes b c [] → Consumes a c (frames ds)
-consumes_none None b c ds p q = p
-consumes_none (Some a) None c ds p q = absurd p
-consumes_none (Some a) (Some b) None ds p q = absurd q
-consumes_none (Some a) (Some b) (Some c) ds p q = p ∙ ap (λ (l : List ℕ). frames ds ++ l) q
-
 -- one frame more
 pub consumes_one : (a b c : Option (List ℕ)) (ds : List (List ℕ)) (d : List ℕ) → Consumes a b (frames ds) → Consumes b c (frame d) → Consumes a c (frames (ds ++ d ∷ []))
 consumes_one None b c ds d p q = p
@@ -82,11 +75,6 @@ against_place who z rs (Symbol i c) h = h
 module _ (who : Identity) (z : Certificate) (object : List ℕ) (name : is_for who z.name ≡ true) (form : IsObject z.fti object) (gives : GivesObject object z) where
   verdict_no : (ds : List (List ℕ)) (r : Reason) → AreDatagrams ds → IsAgainst who (readings_of ds) z r → IsVerdict who ds object z (No r)
   verdict_no ds r each h = record { readings = readings_of ds; read = read_all ds each; judged = refused who (readings_of ds) object z r name form gives h }
-
-  -- the no to a list that begins with datagrams of which the last isn't passed
-  pub step_no : (ds rest : List (List ℕ)) (r : Reason) → IsNotPassed who ds z r → VerdictOn who (readings_of (ds ++ rest)) object z (No r)
-  step_no ds rest r h =
-      refused who (readings_of (ds ++ rest)) object z r name form gives (against_place who z (readings_of (ds ++ rest)) r (reason_stays who z ds rest r h.0))
 
   module _ (ds : List (List ℕ)) (each : AreDatagrams ds) (left : Option (List ℕ)) where
     pub what_follows : (r : Reason) → first_reason who z (readings_of ds) ≡ Some r

@@ -150,15 +150,20 @@ fn same_in_all(alloc: Global, length: usize, fti: &Fti, every: u32) -> Result<bo
     for place in 0..ORDERS {
         let datagrams = disturbed(alloc, &mut random, &session)?;
         let bytes = framed(alloc, datagrams.as_slice())?;
-        for certificate in [named.as_slice(), plain.as_slice()] {
-            let held = Held {
-                session: bytes.as_slice(),
-                object: object.as_slice(),
-                certificate,
-            };
-            if !is_same(alloc, held, ONE) || !same_where_changed(alloc, held, place)? {
-                return Ok(false);
-            }
+        let held = Held {
+            session: bytes.as_slice(),
+            object: object.as_slice(),
+            certificate: named.as_slice(),
+        };
+        let without = Held {
+            certificate: plain.as_slice(),
+            ..held
+        };
+        if !is_same(alloc, held, ONE) || !same_where_changed(alloc, held, place)? {
+            return Ok(false);
+        }
+        if !is_same(alloc, without, ONE) {
+            return Ok(false);
         }
     }
     Ok(true)

@@ -1,4 +1,4 @@
-use Rattle.std.proofs.Common.{◌≡◌, take}
+use Rattle.std.proofs.Common.{take}
 use Rattle.cert.specs.Fed.{IsFed}
 use Rattle.cert.proofs.checking.fed.Given as goal
 

@@ -1,4 +1,4 @@
-use Rattle.std.proofs.Common.{◌≡◌, ◌∙◌, ◌++◌, ◌∷◌, [], List, ℕ, refl}
+use Rattle.std.proofs.Common.{◌∙◌, ◌++◌, ◌∷◌, [], refl}
 use Rattle.session.specs.Frames.{IsDatagram}
 use Rattle.session.proofs.Sessions.{datagrams_push}
 use Rattle.cert.specs.declared.fault.CheckFault.TheVariants.{Frame}

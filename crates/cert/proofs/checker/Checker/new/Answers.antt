@@ -1,4 +1,4 @@
-use Rattle.std.proofs.Common.{◌≡◌, ◌∙◌, [], refl, rules, subst, sym}
+use Rattle.std.proofs.Common.{◌≡◌, [], refl, rules, subst}
 use Rattle.std.specs.Cow.{cow_slice_items}
 use Rattle.partition.specs.Fti.{Fti}
 use Rattle.cert.specs.Tallying.{AreTallied, by_certificate, tallied_of}

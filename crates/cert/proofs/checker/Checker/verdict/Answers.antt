@@ -1,7 +1,7 @@
 use Rattle.std.proofs.Common.{◌≡◌, Some, Ok, rules}
 use Rattle.std.proofs.lemmas.Result.{IfOk-weaker}
 use Rattle.cert.specs.Tallying.{by_certificate}
-use Rattle.cert.proofs.Feeding.{has_reason, goes_on, is_no, no_read, end_read, own_valid, its_tally, verdict_on, verdict_read}
+use Rattle.cert.proofs.Feeding.{has_reason, goes_on, is_no, no_read, own_valid, its_tally, verdict_on, verdict_read}
 use Rattle.cert.proofs.Whole.{decodes_at_yes, undecided_at_yes, tells_at_yes, losses_at_yes}
 use Rattle.cert.proofs.checker.Checker.verdict.Goals as goal
 
