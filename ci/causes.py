@@ -250,6 +250,8 @@ CASES = [
      ["1 datagrams of clash.session contradict", "the object wrong"]),
     (["check", "-", *CHECK[:2], *OF_BULLETIN], 1, "no N12",
      ["note.rsc is for TSI 7 and TOI 2"], "note.session"),
+    (["twin", "-", *CHECK[:2], "out", *OF_BULLETIN], 1, "no N12",
+     ["note.rsc is for TSI 7 and TOI 2"], "note.session|"),
     (["check", "-", "bulletin.txt", "bulletin.rsc", *OF_BULLETIN], 1, "no N3",
      ["standard input has no packet of TSI 7"], "note.session"),
     (["check", "-", "-", "note.rsc", *OF_NOTE], 1, "fault open -",
@@ -425,7 +427,12 @@ TOO_LARGE = [
 
 
 def run(words, given=os.devnull):
-    """Runs the program with a file, or a folder, as its standard input."""
+    """Runs the program with a file, or a folder, as its standard input, or with `NAME|` a pipe of
+    a file's bytes."""
+    if given.endswith("|"):
+        return subprocess.run(
+            [PROGRAM, *words], input=read(given[:-1]), capture_output=True, timeout=60, check=False
+        )
     descriptor = os.open(given, os.O_RDONLY)
     try:
         return subprocess.run(

@@ -5,6 +5,7 @@ ghost use Rattle.std.specs.Io.KnownBytes.{Appends};
 ghost use Rattle.partition.specs.Fti.{block_count, source_count};
 ghost use Rattle.cert.specs.TwinBytes.{AppendsAny, twin_bytes};
 ghost use Rattle.cert.specs.Twins.{different_esis};
+ghost use Rattle.cert.specs.Verdict.{IsVerdict};
 ghost use Rattle.cert.specs.declared.verdict.Reason.TheVariants.{Thin};
 ghost use Rattle.cert.specs.declared.verdict.Verdict.TheVariants.{No};
 ghost use Rattle.request.specs.declared.requests.Request.TheVariants.{Twin};
@@ -183,16 +184,17 @@ struct Answered {
 }
 
 // What the verdict on the inputs gives.
-fn answer_of(alloc: Global, inputs: &Inputs, identity: Identity) -> Result<Answered, AllocError>
+fn answer_of(
+    alloc: Global,
+    inputs: &Inputs,
+    identity: Identity,
+    verdict: &Verdict,
+) -> Result<Answered, AllocError>
+    requires { IsVerdict identity inputs.now.session inputs.now.object.items
+        inputs.now.certificate verdict.now }
     ensures { IfOk result (TellsTwin identity inputs.now) }
 {
-    match cert::check(
-        alloc,
-        &inputs.session,
-        inputs.object.as_slice(),
-        &inputs.certificate,
-        identity,
-    )? {
+    match verdict {
         Verdict::Yes(_) => Ok(Answered {
             line: no_twin_line(alloc)?,
             other: None,
@@ -210,11 +212,32 @@ fn answer_of(alloc: Global, inputs: &Inputs, identity: Identity) -> Result<Answe
                 line: twin_line(alloc, block, have, need)?,
             }),
             None => Ok(Answered {
-                line: reason_line(alloc, reason)?,
+                line: reason_line(alloc, *reason)?,
                 other: None,
             }),
         },
     }
+}
+
+// The same, with why.
+fn answer_in(
+    alloc: Global,
+    inputs: &Inputs,
+    identity: Identity,
+) -> Result<(Answered, Why), AllocError>
+    ensures { IfOk result (λ given. TellsTwin identity inputs.now given.0) }
+{
+    let verdict = cert::check(
+        alloc,
+        &inputs.session,
+        inputs.object.as_slice(),
+        &inputs.certificate,
+        identity,
+    )?;
+    Ok((
+        answer_of(alloc, inputs, identity, &verdict)?,
+        Why::from(&verdict),
+    ))
 }
 
 // What is told of inputs that are held. The output is created once the other object and the line
@@ -231,7 +254,8 @@ fn tell_held<'a, H: Host>(
     ensures fault { IfErr result
         (HasStopped (H.world host.old) (H.world host.new) (Twin request.now)) }
 {
-    let Answered { line, other } = answer_of(alloc, inputs, request.identity)?;
+    let (answered, why) = answer_in(alloc, inputs, request.identity)?;
+    let Answered { line, other } = answered;
     let told = Told::Lines(line);
     match other {
         Some(other) => {
@@ -246,7 +270,7 @@ fn tell_held<'a, H: Host>(
         None => Ok(Done {
             told,
             status: 1,
-            why: Why::Plain,
+            why,
         }),
     }
 }
