@@ -128,7 +128,7 @@ def constants_of_files(batch, group):
     yield "docs/DECISIONS.md", r"One more lane, of (\d+) KiB", [2 ** line >> 10]
     for name in ("docs/ARCHITECTURE.md", "docs/DECISIONS.md"):
         yield name, r"(\d+) KiB ahead", [2 ** lane >> 10]
-    yield "docs/ARCHITECTURE.md", r"`rounds\.rt`\), where (\d+) MiB hold them", [batch]
+    yield "docs/ARCHITECTURE.md", r"`rounds\.rt`\), if (\d+) MiB hold them", [batch]
     yield "docs/DECISIONS.md", r"many rounds as take (\d+) MiB", [batch]
     yield "docs/ARCHITECTURE.md", r"1\.25 to (\d+) MiB of encoding", [group]
     yield "docs/OPERATING.md", r"as much as (\d+) blocks", [runs]
@@ -344,15 +344,18 @@ def wrong_calls():
         yield f"capi/alcrs.h: {call}: no contract"
 
 
-def wrong_crates(listed):
-    """The crates that docs/ARCHITECTURE.md has above one that they stand on, and those that its
-    picture lacks. `coder` has no code, and isn't drawn.
+def wrong_crates():
+    """The crates that docs/ARCHITECTURE.md lacks, or that there aren't, or that it has above one
+    that they stand on; and those that its picture lacks. `coder` has no code, and isn't drawn.
     """
-    above = set()
-    for name, names in crates_of_architecture():
-        for it in sorted((names & listed.keys()) - above):
+    lines = re.findall(r"^(\w+)[\w ]*:(.*)$", text_of("crates.txt"), re.M)
+    listed, above = {name: set(names.split()) for name, names in lines}, set()
+    for name in crates_of_architecture():
+        for it in sorted(listed.get(name, set()) & listed.keys() - above):
             yield f"docs/ARCHITECTURE.md: {name} stands above {it}"
         above.add(name)
+    for it in sorted(listed.keys() ^ above):
+        yield f"docs/ARCHITECTURE.md: {it}: {'not listed' if it in listed else 'no crate'}"
     drawn = re.sub(r"<[^>]*>", " ", text_of("docs/crates.svg"))
     for it in sorted(listed.keys() - {"coder"} - set(re.findall(r"\w+", drawn))):
         yield f"docs/crates.svg: no crate {it}"
@@ -382,11 +385,8 @@ def anchors(path):
 
 
 def crates_of_architecture():
-    """What each crate stands on, as docs/ARCHITECTURE.md has it."""
-    text = text_of("docs/ARCHITECTURE.md")
-    for name, rest in re.findall(r"^- \*\*(\w+)\*\*: (.*(?:\n  .*)*)", text, re.M):
-        on = re.search(r"Stands on: (.*)\.$", " ".join(rest.split()))
-        yield name, set(re.findall(r"\w+", re.sub(r"\([^)]*\)", "", on.group(1)))) if on else set()
+    """The crates that docs/ARCHITECTURE.md lists, from the field up."""
+    return re.findall(r"^- \*\*(\w+)\*\*:", text_of("docs/ARCHITECTURE.md"), re.M)
 
 
 def tell_tried():
@@ -415,16 +415,7 @@ def main():
             told = [number(it) for it in ([told] if isinstance(told, str) else told)]
             if told != wanted:
                 wrong.append(f"{name}: {pattern}: {told}, and not {wanted}")
-    listed = {}
-    for line in text_of("crates.txt").splitlines():
-        head, colon, names = line.partition(":")
-        if colon and not line.startswith("#"):
-            listed[head.split()[0]] = set(names.split())
-    told = dict(crates_of_architecture())
-    for name in listed.keys() | told.keys():
-        if listed.get(name) != told.get(name):
-            wrong.append(f"docs/ARCHITECTURE.md: {name} stands on other crates in crates.txt")
-    wrong += [*wrong_crates(listed), *wrong_callers()]
+    wrong += [*wrong_crates(), *wrong_callers()]
     for path in DOCUMENTS:
         for link in re.findall(r"\]\(([^)\s]+)[^)]*\)", path.read_text(encoding="utf-8")):
             count += 1
