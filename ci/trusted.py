@@ -589,8 +589,8 @@ def missing_promises(text, crates):
 
 def missing_names():
     """What documents name that isn't there, as (document, name): files of crates, and what stands
-    in one of them; definitions, laws and functions, but in DECISIONS, which has those that are
-    gone, too; the mutants of an item that lists some; and clauses.
+    in one of them; definitions, laws, mutants and functions, but in DECISIONS, which has those that
+    are gone, too; and clauses.
     """
     edits = {path.stem for path in [*ROOT.glob("mutants/*/*"), *CRATES.glob("*/must-fail/*")]}
     crates = {path.name for path in CRATES.iterdir()}
@@ -607,8 +607,6 @@ def missing_names():
                 missing.append(f"{name} in {place}")
         names = re.findall(r"`([A-Za-z]+(?:_|[a-z][A-Z])\w*)`", text)
         missing += [name for name in names if name not in known and path.name != "DECISIONS.md"]
-        for item in re.findall(r"^- Mutants:((?:.|\n  )*)", text, re.M):
-            missing += [name for name in re.findall(r"`(\w+)`", item) if name not in edits | crates]
         missing += missing_clauses(flat) if path.name == "ASSURANCE.md" else []
         missing += missing_promises(text, crates) if path.name == "THEOREMS.md" else []
         yield from ((path.name, name) for name in missing)
