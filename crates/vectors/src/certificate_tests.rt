@@ -313,7 +313,7 @@ fn texts(rt: HostRuntime) -> Result<(), Fail> {
 }
 
 // Whether this is the twin of an object of one block, where these ESIs are held and are too few.
-#[tactic(auto, using(cert::proofs::Few::different_few))]
+#[tactic(auto, using(crate::proofs::Few::different_few))]
 fn has_twin(
     alloc: Global,
     fti: &Fti,
