@@ -95,11 +95,8 @@ def constants():
     yield "docs/FORMATS.md", r"there are more than (\d+) blocks", [
         constant("crates/picture/src/spares.rt", columns)
     ]
-    yield "docs/FORMATS.md", r"there are more than (\d+) places", [
+    yield "docs/FORMATS.md", r"blocks or (\d+) places", [
         constant("crates/picture/src/bursts.rt", columns)
-    ]
-    yield "docs/FORMATS.md", r"longer than (\d+) letters", [
-        constant("crates/chart/src/canvas.rt", r"^const NAME_LETTERS: usize = (\d+);")
     ]
     most = r"^const MOST_GROUP_BYTES: usize = 1 << (\d+);"
     group = 2 ** constant("crates/encoder/src/rounds_from.rt", most) >> 20
@@ -315,7 +312,7 @@ def wrong_commands():
         yield f"README.md: alcrs {it}: {'not listed' if it in there else 'no command'}"
     name = "docs/FORMATS.md"
     told = {it: options_in(rest) for it, rest in
-            re.findall(r"^### `alcrs (\w+) ([^`]*)`", text_of(name), re.M)}
+            re.findall(r"`alcrs (\w+) ([A-Z][^`]*)`", text_of(name))}
     for it in sorted(there.keys() ^ told.keys()):
         yield f"{name}: alcrs {it}: {'not listed' if it in there else 'no command'}"
     for it in sorted(there.keys() & told.keys()):
