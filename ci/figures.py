@@ -181,7 +181,6 @@ def counted():
     yield "docs/ASSURANCE.md", r"lines for ([\d,]+) cut and changed inputs", [inputs]
     yield "docs/ASSURANCE.md", r"each byte changed, ([\d,]+) changed inputs", [changes]
     yield "docs/ASSURANCE.md", r"(\d+) sessions in random orders", [random_sessions()]
-    yield "docs/EMBEDDING.md", r"for ([\d,]+) cut and changed sessions", [inputs]
     yield "docs/THEOREMS.md", r"tries (\d+) causes", [causes]
     crates = len({it.parent for it in ROOT.glob("crates/*/must-fail/*.edit")})
     yield "docs/MUTANTS.md", r"They stand in the (\w+) crates", [crates]
