@@ -9,8 +9,8 @@ stands for; and not from what crates of the library offer to those above them al
 of the commands to `tool` alone. All other definitions of `specs/` are the vocabulary of such
 contracts, of private ones and of proofs, and need no trust. They stand in files of their own.
 
-docs/THEOREMS.md opens with a table of the promises, each with how many of the definitions have to
-be read to believe it, and ends with the list. Lines are those of definitions alone, without
+docs/definitions.txt has the list, and docs/THEOREMS.md a table of the promises, each with how many
+of the definitions have to be read to believe it. Lines are those of definitions alone, without
 comments and imports, counted at 100 columns.
 
     ci/trusted.py               fails where the table or the list is another, where a file has
@@ -34,7 +34,6 @@ HEAD = re.compile(r"^(?:(?:pub|abbrev|unfoldable) )*(record |data )?([^\s:(){}]+
 USE = re.compile(r"(?:ghost )?use ([\w.]+?)(?:\.\{([^}]*)\}| as (\w+))?;?$")
 NAME = re.compile(r"[^\s(){}\[\],;.`]+")
 FIELD = re.compile(r"^  (?:pub )?\S+ :", re.M)
-HEADING = "## What has to be read"
 TABLE_HEADING = "## What to read for each promise"
 WIDTH = 100
 
@@ -499,8 +498,6 @@ def listing(modules, wanted):
         "`ci/trusted.py` makes this list, and the gate compares it."
     )
     head = [
-        HEADING,
-        "",
         *textwrap.wrap(about, WIDTH, break_long_words=False, break_on_hyphens=False),
         "",
         f"{len(wanted)} of {everything} definitions, {lines_of(files, wanted)} lines.",
@@ -538,9 +535,9 @@ def table(modules, wanted):
     text = [
         TABLE_HEADING,
         "",
-        "How many of the definitions below have to be read to believe a promise, and how many",
-        "lines of 100 columns these are. `ci/trusted.py --read headline` lists them in the order",
-        "to read them, and so for each row.",
+        "How many definitions have to be read to believe a promise, and how many lines of 100",
+        "columns these are. `ci/trusted.py --read headline` lists them in the order to read them,",
+        "and so for each row; [definitions.txt](definitions.txt) has those of all.",
         "",
         "| promise | beyond | definitions | lines |",
         "|---|---|---|---|",
@@ -620,29 +617,28 @@ def main():
             sys.exit("ci/trusted.py --read WHAT, of " + ", ".join(names))
         print("\n".join(entries(modules, promised(modules, sys.argv[2]))))
         return
-    path = ROOT / "docs" / "THEOREMS.md"
-    before = path.read_text().partition(HEADING)[0]
-    opening, found, rest = before.partition(TABLE_HEADING)
-    behind = rest[rest.index("\n## ") + 1:] if found else ""
+    path, list_path = (ROOT / "docs" / name for name in ("THEOREMS.md", "definitions.txt"))
+    opening, found, rest = path.read_text().partition(TABLE_HEADING)
+    if not found:
+        sys.exit(f"docs/THEOREMS.md has no heading '{TABLE_HEADING}'")
     wanted = closure(modules)
     both = list(mixed(modules, wanted))
     missing = list(dict.fromkeys(missing_names()))
-    text = opening + table(modules, wanted) + "\n" + behind + listing(modules, wanted)
-    if not found:
-        sys.exit(f"docs/THEOREMS.md has no heading '{TABLE_HEADING}'")
+    text = opening + table(modules, wanted) + rest[rest.index("\n## "):]
+    listed = listing(modules, wanted)
     if sys.argv[1:] == ["--write"]:
         path.write_text(text)
+        list_path.write_text(listed)
     elif missing:
         sys.exit("not there:\n" + "\n".join(f"{document}: {name}" for document, name in missing))
     elif both:
         names = ", ".join(both)
         sys.exit(f"definitions that public contracts speak of stand beside others in: {names}")
-    elif path.read_text() != text:
-        sys.exit(
-            "docs/THEOREMS.md has another list of what has to be read: run ci/trusted.py --write"
-        )
+    elif path.read_text() != text or list_path.read_text() != listed:
+        sys.exit("docs/THEOREMS.md or docs/definitions.txt has another count or list of what has to"
+                 " be read: run ci/trusted.py --write")
     else:
-        print("docs/THEOREMS.md lists what has to be read: same")
+        print("docs/definitions.txt lists what has to be read: same")
 
 
 if __name__ == "__main__":
