@@ -532,18 +532,21 @@ def table(modules, wanted):
         behind = " and ".join(f"*{other}*" for other in beyond)
         size = f"{sign}{len(more)} | {sign}{lines_of(files, more)}"
         rows.append(f"| *{short}*: {promise} | {behind} | {size} |")
+    about = (
+        "How many definitions have to be read to believe a promise, and how many lines of 100 "
+        "columns these are. `ci/trusted.py --read headline` lists them in the order to read them, "
+        "and so for each row; [definitions.txt](definitions.txt) has those of all."
+    )
     text = [
         TABLE_HEADING,
         "",
-        "How many definitions have to be read to believe a promise, and how many lines of 100",
-        "columns these are. `ci/trusted.py --read headline` lists them in the order to read them,",
-        "and so for each row; [definitions.txt](definitions.txt) has those of all.",
+        *textwrap.wrap(about, WIDTH, break_long_words=False, break_on_hyphens=False),
         "",
         "| promise | beyond | definitions | lines |",
         "|---|---|---|---|",
     ]
     sentence = kit_sentence(modules, wanted)
-    return "\n".join(text + rows + ["", sentence, ""]) + "\n"
+    return "\n".join(text + rows + ["", sentence]) + "\n"
 
 
 # ---- what documents name
