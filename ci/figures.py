@@ -100,10 +100,10 @@ def constants():
     ]
     most = r"^const MOST_GROUP_BYTES: usize = 1 << (\d+);"
     group = 2 ** constant("crates/encoder/src/rounds_from.rt", most) >> 20
-    yield "docs/OPERATING.md", r"within 1\.25 and (\d+) MiB", [group]
+    yield "docs/BENCHMARKS.md", r"within 1\.25 and (\d+) MiB", [group]
     shift = r"^const MOST_BYTES: usize = 1 << (\d+);"
     batch = 2 ** constant("crates/encoder/src/rounds.rt", shift) >> 20
-    for name in ("docs/OPERATING.md", "docs/EMBEDDING.md"):
+    for name in ("docs/BENCHMARKS.md", "docs/EMBEDDING.md"):
         yield name, r"up to (\d+) MiB of repair symbols", [batch]
     values = constant("crates/block_code/src/codes.rt", r"LEAST_BY_VALUES: usize = (\d+);")
     yield "docs/BENCHMARKS.md", r"from (\d+) source symbols on", [values]
@@ -128,7 +128,7 @@ def constants_of_files(batch, group):
     yield "docs/ARCHITECTURE.md", r"`rounds\.rt`\), if (\d+) MiB hold them", [batch]
     yield "docs/DECISIONS.md", r"many rounds as take (\d+) MiB", [batch]
     yield "docs/ARCHITECTURE.md", r"1\.25 to (\d+) MiB of encoding", [group]
-    yield "docs/OPERATING.md", r"as much as (\d+) blocks", [runs]
+    yield "docs/BENCHMARKS.md", r"as much as (\d+) blocks", [runs]
     yield "docs/DECISIONS.md", r"The program takes (\d+) MiB once", [2 ** kept >> 20]
     memory = constant("scripts/build.py", r"^MEMORY = (\d+) << 30$")
     yield "CONTRIBUTING.md", r"up to (\d+) GiB of memory", [memory]
@@ -233,10 +233,7 @@ def measured():
             for name, cell in zip(names[1:], row[1:]):
                 speeds[name.strip("`")].append(int(cell.split()[0]))
     received = speeds["check"] + speeds["decode"] + speeds["nothing lost"]
-    sent = speeds["encode"] + speeds["certify"] + speeds["drop"]
-    for name in ("README.md", "docs/OPERATING.md"):
-        yield name, r"process (\d+) to (\d+) MB of object a second", tens(received)
-    yield "docs/OPERATING.md", r"`drop` (\d+) to (\d+), with symbols", tens(sent)
+    yield "README.md", r"process (\d+) to (\d+) MB of object a second", tens(received)
 
 
 def blocks_of(symbols, block, most):
