@@ -73,6 +73,7 @@ def make_files():
     session("damaged.session", [note[0], bytes(damaged)] + note[2:])
     session("clash.session", [note[0], note[1], bytes(damaged)] + note[2:])
     session("thin.session", note[:3])
+    session("exact.session", note[:4])
     session("first.session", datagrams("bulletin.session")[:10])
     session("closed.session", note + [note[0][:28]])
     # Behind the header's first word and the congestion control stand the TSI and the TOI.
@@ -240,6 +241,16 @@ CASES = [
     (["decode", "bare.session", "out", *OF_NOTE], 3, "empty", ["bare.session", "carries the FTI"]),
     (["check", "twice.session", *CHECK], 0, "burst",
      ["6 datagrams of twice.session are repeats of others"]),
+    (["check", "note.session", *CHECK, "--margin", "3"], 3, "burst",
+     ["note.session has a margin of 2, and --margin asks for 3", "--max"]),
+    (["check", "note.session", *CHECK, "--burst", "4"], 3, "burst",
+     ["note.session has a burst of 2, and --burst asks for 4"]),
+    (["check", "exact.session", *CHECK], 0, "burst",
+     ["a datagram of exact.session without which nobody gets the object", "join --turns"]),
+    (["encode", "note.txt", "out", *OF_NOTE, "--symbol", "8", "--block", "8", "--max", "8"], 0,
+     "encoded", ["a block has no repair symbol", "--max"]),
+    (["encode", "note.txt", "note.txt", *OF_NOTE, "--symbol", "8", "--block", "8", "--max", "9"], 1,
+     "fault open note.txt", ["note.txt: it is an input of this command"]),
     (["follow", "thin.session", "out", *OF_NOTE], 3, "missing",
      ["3 different symbols of block 0 were taken of thin.session", "alcrs join"]),
     (["follow", "ranged.session", "out", *OF_NOTE], 3, "empty",

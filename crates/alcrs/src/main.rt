@@ -5,18 +5,62 @@ mod words;
 
 use causes::{explain, refused};
 use commands::{Stop, Why};
-use inspection::Failure;
+use inspection::{Failure, STANDARD_STREAM};
 use program_host::{BUFFER_SIZE, Failures, Noted, ProgramHost};
 use progress::Progress;
 use request::{CommandLine, Request, Usage, command_line};
 use session::Device;
 use std::alloc::{AllocError, Global};
 use std::fs::{self, File};
-use std::io::{BufWriter, ErrorKind, IsTerminal};
+use std::io::{self, BufWriter, ErrorKind, IsTerminal};
 use std::process::ExitCode;
-use std::rt::Files;
-use tool::{carry_out, refuse, refuse_memory, status_after};
+use std::rt::{Files, Stderr, Stdout};
+use tool::{carry_out, refuse_memory, status_after};
 use words::{WordFault, read_words, refuse_word};
+
+/// Where a command's lines go.
+#[derive(Clone, Copy)]
+enum Lines {
+    Out(Stdout),
+    Err(Stderr),
+}
+
+impl Lines {
+    fn is_terminal(&self) -> bool {
+        match self {
+            Lines::Out(out) => out.is_terminal(),
+            Lines::Err(err) => err.is_terminal(),
+        }
+    }
+}
+
+impl io::Write for Lines {
+    fn write(&mut self, buf: &[u8]) -> io::Result<usize> {
+        match self {
+            Lines::Out(out) => out.write(buf),
+            Lines::Err(err) => err.write(buf),
+        }
+    }
+
+    fn flush(&mut self) -> io::Result<()> {
+        match self {
+            Lines::Out(out) => out.flush(),
+            Lines::Err(err) => err.flush(),
+        }
+    }
+}
+
+// Standard output, unless the command writes its file there.
+fn lines_of(rt: &HostRuntime, line: &Result<CommandLine<'_>, Usage<'_>>) -> (Lines, &'static str) {
+    if let Ok(line) = line {
+        if let Some(output) = line.request.output() {
+            if output.name == STANDARD_STREAM {
+                return (Lines::Err(rt.stderr()), "standard error");
+            }
+        }
+    }
+    (Lines::Out(rt.stdout()), "standard output")
+}
 
 // The words as they are taken by what reads them.
 fn views_of(alloc: Global, words: &[String]) -> Result<Vec<&str>, AllocError> {
@@ -79,11 +123,13 @@ fn may_print_between(rt: &HostRuntime, request: &Request<'_>) -> bool {
 }
 
 // Says what is known before a command begins, and watches over what it reads.
-fn begin<O: std::io::Write + Drop>(
+fn begin<O: io::Write + Drop>(
     rt: &HostRuntime,
     line: &CommandLine<'_>,
+    lines: Lines,
     host: &mut ProgramHost<'_, HostRuntime, O>,
 ) {
+    host.guard(&line.request);
     if line.quiet {
         return;
     }
@@ -92,32 +138,32 @@ fn begin<O: std::io::Write + Drop>(
     }
     host.tell();
     if rt.stderr().is_terminal() && !may_print_between(rt, &line.request) {
-        host.watch(rt.stdout().is_terminal());
+        host.watch(lines.is_terminal());
     }
 }
 
 // Says that there is no memory for the words, and answers the status.
-fn refuse_without_memory<O: std::io::Write + Drop>(
-    host: &mut ProgramHost<'_, HostRuntime, O>,
-) -> ExitCode {
-    let status = refuse(host);
-    ExitCode::from(status_after(status, host.flush()))
+fn refuse_without_memory(rt: &HostRuntime) -> ExitCode {
+    ExitCode::from(refuse_memory(&mut Device::new(rt.stdout())))
 }
 
 // Does what the words ask for, and answers the status.
-fn obey<'a, O: std::io::Write + Drop>(
-    rt: &HostRuntime,
-    alloc: Global,
-    words: &'a [&'a str],
-    host: &mut ProgramHost<'_, HostRuntime, O>,
-    failures: &Failures,
-) -> u8 {
+fn obey(rt: &HostRuntime, alloc: Global, words: &[&str]) -> Result<u8, AllocError> {
     let line = command_line(alloc, words);
+    let failures = Failures::new(alloc);
+    let progress = Progress::new();
+    let (lines, name) = lines_of(rt, &line);
+    let noted = Noted::new(lines, name.to_string(alloc)?, &failures);
+    let Ok(buffer) = BufWriter::with_capacity(alloc, BUFFER_SIZE, noted) else {
+        return Err(AllocError);
+    };
+    let out = Device::new(buffer);
+    let mut host = ProgramHost::new(rt, alloc, rt.stdout(), out, &progress, &failures);
     if let Ok(line) = &line {
-        begin(rt, line, host);
+        begin(rt, line, lines, &mut host);
     }
     let mut err = Device::new(rt.stderr());
-    let settled = carry_out(alloc, &line, host, &mut err);
+    let settled = carry_out(alloc, &line, &mut host, &mut err);
     host.end_watch();
     let flushed = host.flush();
     let failure = failures.take();
@@ -126,28 +172,21 @@ fn obey<'a, O: std::io::Write + Drop>(
         Err(_) => Err(Stop::Unprinted),
     };
     tell_cause(rt, alloc, &line, why, failure.as_ref());
-    status_after(settled.status, flushed)
+    Ok(status_after(settled.status, flushed))
 }
 
 fn main(rt: HostRuntime) -> ExitCode {
     let alloc = rt.alloc();
-    let failures = Failures::new(alloc);
-    let Ok(name) = "standard output".to_string(alloc) else {
-        return ExitCode::from(refuse_memory(&mut Device::new(rt.stdout())));
-    };
-    let out = Noted::new(rt.stdout(), name, &failures);
-    let Ok(buffer) = BufWriter::with_capacity(alloc, BUFFER_SIZE, out) else {
-        return ExitCode::from(refuse_memory(&mut Device::new(rt.stdout())));
-    };
-    let progress = Progress::new();
-    let mut host = ProgramHost::new(&rt, alloc, Device::new(buffer), &progress, &failures);
     let words = match read_words(&rt, alloc) {
         Ok(words) => words,
         Err(WordFault::NoText(place)) => return ExitCode::from(refuse_word(&rt, place)),
-        Err(WordFault::NoMemory) => return refuse_without_memory(&mut host),
+        Err(WordFault::NoMemory) => return refuse_without_memory(&rt),
     };
     let Ok(views) = views_of(alloc, words.as_slice()) else {
-        return refuse_without_memory(&mut host);
+        return refuse_without_memory(&rt);
     };
-    ExitCode::from(obey(&rt, alloc, &views, &mut host, &failures))
+    match obey(&rt, alloc, &views) {
+        Ok(status) => ExitCode::from(status),
+        Err(AllocError) => refuse_without_memory(&rt),
+    }
 }

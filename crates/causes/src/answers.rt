@@ -13,6 +13,8 @@ use std::alloc::AllocError;
 use std::fs::File;
 use std::rt::Files;
 
+const PROTECT: &str = "encode with a greater --max, or send it twice (alcrs join --turns)";
+
 const JOIN: &str = "join it with what came of the same session at another time (alcrs join)";
 
 // What else a datagram is that is no packet. The header's length is in its third byte, in words of
@@ -46,21 +48,59 @@ fn has_toi_0(datagram: &[u8]) -> bool {
 }
 
 impl<'a, R: Files<File = File>> Case<'a, R> {
-    /// What to think of a yes to a session with repeats, and why there is no twin.
-    pub(crate) fn yes(&self, repeats: usize) -> Sentence
-        ensures { IfOk result (λ said. TellsYes self.now.request.now repeats (is_some said)) }
+    /// What to think of a yes by what may be missed, and why there is no twin.
+    pub(crate) fn yes(&self, repeats: usize, margin: usize, burst: usize) -> Sentence
+        ensures { IfOk result (λ said.
+            TellsYes self.now.request.now repeats margin burst (is_some said)) }
     {
         let session = self.session;
         match self.request {
             Request::Twin(_) => Ok(Some(format!(in self.alloc;
                 "no block of {session} is short: its datagrams give the object"
             )?)),
-            Request::Check(_) if repeats > 0 => Ok(Some(format!(in self.alloc;
-                "{repeats} datagrams of {session} are repeats of others, and margin and burst \
-                count them: what goes on air once may lose less"
-            )?)),
+            Request::Check(request) => {
+                if margin < request.margin as usize {
+                    return self.bears_less("margin", margin, request.margin);
+                }
+                if burst < request.burst as usize {
+                    return self.bears_less("burst", burst, request.burst);
+                }
+                if margin == 0 {
+                    return Ok(Some(format!(in self.alloc;
+                        "there is a datagram of {session} without which nobody gets the object: \
+                        {PROTECT}"
+                    )?));
+                }
+                if repeats > 0 {
+                    return Ok(Some(format!(in self.alloc;
+                        "{repeats} datagrams of {session} are repeats of others, and margin and \
+                        burst count them: what goes on air once may lose less"
+                    )?));
+                }
+                Ok(None)
+            }
             _ => Ok(None),
         }
+    }
+
+    // The session bears fewer losses than an option asks for.
+    fn bears_less(&self, name: &str, bears: usize, asked: u32) -> Sentence
+        ensures { IfOk result (λ said. is_some said ≡ true) }
+    {
+        let session = self.session;
+        Ok(Some(format!(in self.alloc;
+            "{session} has a {name} of {bears}, and --{name} asks for {asked}: {PROTECT}"
+        )?))
+    }
+
+    /// Some block of a session that was written has no repair symbol.
+    pub(crate) fn unprotected(&self) -> Sentence
+        ensures { IfOk result (λ said. is_some said ≡ true) }
+    {
+        Ok(Some(format!(in self.alloc;
+            "a block has no repair symbol, and whoever misses a datagram of it can't get the \
+            object: take a greater --max"
+        )?))
     }
 
     /// What to think of an object that was completed although so many datagrams contradicted it.

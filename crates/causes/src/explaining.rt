@@ -24,7 +24,12 @@ pub fn explain<'a, R: Files<File = File>>(
     let case = Case::new(rt, alloc, request, failure);
     match why {
         Ok(Why::Plain) => Ok(None),
-        Ok(Why::Yes { repeats }) => case.yes(repeats),
+        Ok(Why::Yes {
+            repeats,
+            margin,
+            burst,
+        }) => case.yes(repeats, margin, burst),
+        Ok(Why::Unprotected) => case.unprotected(),
         Ok(Why::No(reason)) => case.no(reason),
         Ok(Why::Strays) => case.strays(),
         Ok(Why::Cut(_)) => case.broken(),

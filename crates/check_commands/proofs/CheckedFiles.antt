@@ -18,8 +18,8 @@ use Rattle.cert.specs.declared.fault.CheckFault.{CheckFault}
 use Rattle.cert.specs.declared.fault.CheckFault.TheVariants as check_fault
 use Rattle.request.specs.declared.requests.CheckRequest.{CheckRequest}
 use Rattle.request.specs.declared.requests.Request.TheVariants.{Check}
-use Rattle.host.specs.World.{Files, GivesFile, Holds, MayFail, World}
-use Rattle.commands.specs.Inputs.{ACertificate, AnObject, Bytes, HasValue, HaveValues, IsUnopened, IsUnread, Opened, Polynomials, Value}
+use Rattle.host.specs.World.{Files, GivesFile, Holds, MayFail, Reading, World}
+use Rattle.commands.specs.Inputs.{ACertificate, AnObject, Bytes, HasValue, HaveValues, IsUnread, Opened, Polynomials, Value}
 use Rattle.commands.specs.Commands.{Refuses, inputs_of}
 use Rattle.commands.specs.Outcomes.{IsBecause}
 use Rattle.commands.specs.Doing.{HasStopped}
@@ -29,7 +29,9 @@ use Rattle.check_commands.specs.Summing.{CanBeSummed}
 use Rattle.commands.specs.declared.fault.Fault.{Fault}
 use Rattle.commands.specs.declared.fault.Fault.TheVariants as told_as
 use Rattle.check_commands.proofs.Pictured.{has_block}
+use Rattle.commands.proofs.Passing.{certificate_changed, object_changed}
 use Rattle.commands.proofs.Stopping.{by_refused, by_unread, stopped}
+use Rattle.commands.specs.ReadingInputs.{HasChanged}
 use Rattle.commands.proofs.Holding.{holds_told}
 
 -- the files are told, or they aren't
@@ -48,7 +50,7 @@ untold_then None name content h e = refl
 untold_then (Some held) name content h e = absurd (let is = h.2 in cc)
 
 module _ (w : World) (name : Bor (List ℕ)) (content : Option (List ℕ)) (reliable : Bool) (given : GivesFile w name.now content reliable) where
-  lost : IsLost content reliable → MayFail w
+  lost : IsLost content reliable → MayFail w (Reading name.now)
   lost (inl none) = inl (untold_then w.files name.now content given.bytes none)
   lost (inr fails) = given.fails fails
 
@@ -59,6 +61,16 @@ module _ (w : World) (name : Bor (List ℕ)) (content : Option (List ℕ)) (reli
   no_certificate certificate_fault.Io h = lost (h.1 refl)
   no_certificate certificate_fault.NoMemory h = tt
   no_certificate certificate_fault.OtherIdentity h = absurd h.0
+
+-- the second of a check's files isn't had, or the third
+pub object_unhad : (w : World) (r : CheckRequest) (session : Option (List ℕ)) → Holds w.files r.session.now (λ bytes. session ≡ Some bytes)
+    → (fault : Fault) → IsUnread w (AnObject r.object.now) fault → HasStopped w w (Check r) fault
+object_unhad w r session held fault why = stopped w (Check r) fault (by_unread w w (Check r) [] fault (inr (Opened session, held, inl why)))
+
+pub certificate_unhad : (w : World) (r : CheckRequest) (session : Option (List ℕ)) → Holds w.files r.session.now (λ bytes. session ≡ Some bytes)
+    → (value : Value) → HasValue w.files (AnObject r.object.now) value → (fault : Fault) → IsUnread w (ACertificate r.certificate.now) fault → HasStopped w w (Check r) fault
+certificate_unhad w r session held value has fault why =
+    stopped w (Check r) fault (by_unread w w (Check r) [] fault (inr (Opened session, held, inr (value, has, inl why))))
 
 module _ (w : World) (r : CheckRequest) (session object text : Option (List ℕ)) (s o t : Bool) (gives_session : GivesFile w r.session.now session s) (gives_object : GivesFile w r.object.now object o)
     (gives_text : GivesFile w r.certificate.now text t) where
@@ -100,11 +112,11 @@ module _ (w : World) (r : CheckRequest) (session object text : Option (List ℕ)
         ),
       )
 
-  because_session : (w.files ≡ None) ⊎ ((held : Files) × (w.files ≡ Some held)) → WhereTold session object text (λ x y z. IsFilesFault r.identity reliable x y z check_fault.Session) → MayFail w
+  because_session : (w.files ≡ None) ⊎ ((held : Files) × (w.files ≡ Some held)) → WhereTold session object text (λ x y z. IsFilesFault r.identity reliable x y z check_fault.Session) → MayFail w (Reading r.session.now)
   because_session (inl none) h = inl none
   because_session (inr (held, told)) h = gives_session.fails (where_told held told (λ x y z. IsFilesFault r.identity reliable x y z check_fault.Session) h).2
 
-  because_object : (w.files ≡ None) ⊎ ((held : Files) × (w.files ≡ Some held)) → WhereTold session object text (λ x y z. IsFilesFault r.identity reliable x y z check_fault.Object) → MayFail w
+  because_object : (w.files ≡ None) ⊎ ((held : Files) × (w.files ≡ Some held)) → WhereTold session object text (λ x y z. IsFilesFault r.identity reliable x y z check_fault.Object) → MayFail w (Reading r.object.now)
   because_object (inl none) h = inl none
   because_object (inr (held, told)) h = gives_object.fails (where_told held told (λ x y z. IsFilesFault r.identity reliable x y z check_fault.Object) h).2
 
@@ -123,19 +135,22 @@ module _ (w : World) (r : CheckRequest) (session object text : Option (List ℕ)
   unchecked fault untold h = stopped w (Check r) (fault_of r.session r.object fault) (because_files fault untold h)
 
   -- one of them was changed
-  pub changed_since : (fault : Fault) → HaveChanged w r.session.now r.object.now r.certificate.now fault → HasStopped w w (Check r) fault
-  changed_since (told_as.File n) (inl is, may) = stopped w (Check r) (told_as.File n) (by_refused w w (Check r) [] (told_as.File n) (is, may))
-  changed_since (told_as.File n) (inr (inl is), may) = stopped w (Check r) (told_as.File n) (by_unread w w (Check r) [] (told_as.File n) (inr (Opened session, gives_session.bytes, inl (is, may))))
-  changed_since (told_as.File n) (inr (inr is), may) =
+  changed_session : (fault : Fault) → HasChanged s r.session.now fault → HasStopped w w (Check r) fault
+  changed_session (told_as.File n) (is, not) = stopped w (Check r) (told_as.File n) (by_refused w w (Check r) [] (told_as.File n) (is, gives_session.fails not))
+  changed_session (told_as.Open n) h = absurd h
+  changed_session told_as.Memory h = absurd h
+  changed_session (told_as.Frame e) h = absurd h
+  changed_session (told_as.Certificate e) h = absurd h
+  changed_session (told_as.Fti e) h = absurd h
+  changed_session (told_as.Send e) h = absurd h
+  changed_session (told_as.NoPlace n) h = absurd h
+
+  pub changed_since : (fault : Fault) → HaveChanged (r.session.now, s) (r.object.now, o) (r.certificate.now, t) fault → HasStopped w w (Check r) fault
+  changed_since fault (inl h) = changed_session fault h
+  changed_since fault (inr (inl h)) = object_unhad w r session gives_session.bytes fault (object_changed w r.object.now o gives_object.fails fault h)
+  changed_since fault (inr (inr h)) =
       let value = an_object w.files r.object.now object gives_object.bytes in
-      stopped w (Check r) (told_as.File n) (by_unread w w (Check r) [] (told_as.File n) (inr (Opened session, gives_session.bytes, inr (value.0, value.1, inl (is, may)))))
-  changed_since (told_as.Open n) h = absurd h
-  changed_since told_as.Memory h = absurd h
-  changed_since (told_as.Frame e) h = absurd h
-  changed_since (told_as.Certificate e) h = absurd h
-  changed_since (told_as.Fti e) h = absurd h
-  changed_since (told_as.Send e) h = absurd h
-  changed_since (told_as.NoPlace n) h = absurd h
+      certificate_unhad w r session gives_session.bytes value.0 value.1 fault (certificate_changed w r.certificate.now t gives_text.fails fault h)
 
   of_files : (Fact : List ℕ → List ℕ → List ℕ → Type 0) → (files : Option Files) → files ≡ w.files → WhereTold session object text Fact → OfFiles files r Fact
   of_files Fact None is h = tt
@@ -166,41 +181,9 @@ of_made P checked made found is made_is h = subst (λ r. IfOk r P) (sym made_is 
 pub of_refused : {A E : Type 0} (P : E → Type 0) (checked made : Result A E) (fault : E) → checked ≡ Err fault → checked ≡ made → IfErr made P → P fault
 of_refused P checked made fault is made_is h = subst (λ r. IfErr r P) (sym made_is ∙ is) h
 
--- ---- a file that isn't opened
-
-pub object_unopened : (w : World) (name : List ℕ) (fault : Fault) → IsUnopened w name fault → IsUnread w (AnObject name) fault
-object_unopened w name (told_as.Open n) h = h
-object_unopened w name (told_as.File n) h = absurd h
-object_unopened w name told_as.Memory h = h
-object_unopened w name (told_as.Frame e) h = absurd h
-object_unopened w name (told_as.Certificate e) h = absurd h
-object_unopened w name (told_as.Fti e) h = absurd h
-object_unopened w name (told_as.Send e) h = absurd h
-object_unopened w name (told_as.NoPlace n) h = absurd h
-
-pub certificate_unopened : (w : World) (name : List ℕ) (fault : Fault) → IsUnopened w name fault → IsUnread w (ACertificate name) fault
-certificate_unopened w name (told_as.Open n) h = h
-certificate_unopened w name (told_as.File n) h = absurd h
-certificate_unopened w name told_as.Memory h = h
-certificate_unopened w name (told_as.Frame e) h = absurd h
-certificate_unopened w name (told_as.Certificate e) h = absurd h
-certificate_unopened w name (told_as.Fti e) h = absurd h
-certificate_unopened w name (told_as.Send e) h = absurd h
-certificate_unopened w name (told_as.NoPlace n) h = absurd h
-
--- the second of a check's files isn't had, or the third
-pub object_unhad : (w : World) (r : CheckRequest) (session : Option (List ℕ)) → Holds w.files r.session.now (λ bytes. session ≡ Some bytes)
-    → (fault : Fault) → IsUnread w (AnObject r.object.now) fault → HasStopped w w (Check r) fault
-object_unhad w r session held fault why = stopped w (Check r) fault (by_unread w w (Check r) [] fault (inr (Opened session, held, inl why)))
-
-pub certificate_unhad : (w : World) (r : CheckRequest) (session : Option (List ℕ)) → Holds w.files r.session.now (λ bytes. session ≡ Some bytes)
-    → (value : Value) → HasValue w.files (AnObject r.object.now) value → (fault : Fault) → IsUnread w (ACertificate r.certificate.now) fault → HasStopped w w (Check r) fault
-certificate_unhad w r session held value has fault why =
-    stopped w (Check r) fault (by_unread w w (Check r) [] fault (inr (Opened session, held, inr (value, has, inl why))))
-
 -- of frames that come after the object and the certificate were read
 unchecked_frames : (w : World) (r : CheckRequest) (sound : Bool) (opened : Option (List ℕ)) (object : List ℕ) (z : Certificate)
-    → HaveValues w.files (inputs_of (Check r)) (Opened opened ∷ Bytes object ∷ Polynomials z ∷ []) → (sound ≡ false → MayFail w)
+    → HaveValues w.files (inputs_of (Check r)) (Opened opened ∷ Bytes object ∷ Polynomials z ∷ []) → (sound ≡ false → MayFail w (Reading r.session.now))
     → (fault : Fault) → IsNotChecked r.identity sound opened object z fault → HasStopped w w (Check r) fault
 unchecked_frames w r sound opened object z have fails (told_as.Open n) h = absurd h
 unchecked_frames w r sound opened object z have fails (told_as.File n) h = absurd h
@@ -213,7 +196,7 @@ unchecked_frames w r sound opened object z have fails (told_as.Send e) h = absur
 unchecked_frames w r sound opened object z have fails (told_as.NoPlace n) h = absurd h
 
 pub frames_stopped : (w : World) (r : CheckRequest) (sound : Bool) (opened : Option (List ℕ)) (object : List ℕ) (z : Certificate)
-    → HaveValues w.files (inputs_of (Check r)) (Opened opened ∷ Bytes object ∷ Polynomials z ∷ []) → (sound ≡ false → MayFail w)
+    → HaveValues w.files (inputs_of (Check r)) (Opened opened ∷ Bytes object ∷ Polynomials z ∷ []) → (sound ≡ false → MayFail w (Reading r.session.now))
     → (result : Result Answered Fault) → IfErr result (IsNotChecked r.identity sound opened object z) → IfErr result (HasStopped w w (Check r))
 frames_stopped w r sound opened object z have fails (Ok answered) h = tt
 frames_stopped w r sound opened object z have fails (Err fault) h = unchecked_frames w r sound opened object z have fails fault h

@@ -1,4 +1,3 @@
 mod Pictured
 mod CheckedFiles
-mod Twinned
 mod TwinnedFiles

@@ -24,7 +24,7 @@ use Rattle.request.specs.declared.requests.Output.{Output}
 use Rattle.host.specs.World.{Files, World, IsFree, Replaces, one_more}
 use Rattle.commands.specs.Inputs.{Value, Opened, Bytes, HaveValues, Polynomials}
 use Rattle.check_commands.specs.declared.check.Answered.{Answered}
-use Rattle.commands.specs.Commands.{Outcome, Gives, IsDrawn, TellsVerdict, inputs_of, output_of, status_of}
+use Rattle.commands.specs.Commands.{Outcome, Gives, IsDrawn, IsCheckStatus, TellsVerdict, inputs_of, output_of}
 use Rattle.commands.specs.Outcomes.{IsOutput, MayCreate}
 use Rattle.commands.specs.Doing.{text_of, HasMade}
 use Rattle.check_commands.specs.Drawing.{HasDrawn, IsSurveyed}
@@ -106,7 +106,7 @@ module _ (old new : World) (r : CheckRequest) (done : Done) (drawn : Drawn) (tel
   pub may_draw : MayCreate old.files (Check r)
   may_draw = (values old.files r told_of_yes tells, outcome [], [], have_values old.files r told_of_yes tells, gives [], refl)
 
-  pub pictured : (bytes : List ℕ) → Replaces old.files new.files drawn.name.now bytes → new.created ≡ one_more old.created → IsFree old.files drawn.name.now r.no_clobber → new.printed ≡ old.printed
+  pub pictured : (bytes : List ℕ) → Replaces old.files new.files drawn.name.now bytes → new.created ≡ one_more drawn.name.now r.no_clobber old.created → IsFree old.files drawn.name.now r.no_clobber → new.printed ≡ old.printed
       → HasMade old new (Check r) done
   pictured bytes replaced created free silent = record {
     outcome = outcome bytes;
@@ -140,7 +140,7 @@ unpictured w r done tells =
 
 -- what is told of a verdict on files that stand where they are
 pub told_there : (files : Option Files) (r : CheckRequest) (verdict : Verdict) (answered : Answered) → OfFiles files r (λ x o text. IsVerdictIn r.identity x o text verdict) → IsVerdictOnSome r.identity verdict
-    → TellsVerdict r.summary verdict (text_of answered.done.told) → answered.done.status ≡ status_of verdict → HasDrawn r.picture verdict answered.picture → TellsRequest files r answered
+    → TellsVerdict r.summary verdict (text_of answered.done.told) → IsCheckStatus r verdict answered.done.status → HasDrawn r.picture verdict answered.picture → TellsRequest files r answered
 told_there None r verdict answered is (datagrams, f, valid, report) text status picture =
     inr (refl, record { verdict = verdict; datagrams = datagrams; fti = f; valid = valid; report = report; text = text; status = status; picture = picture })
 told_there (Some held) r verdict answered (session, object, certificate, at_session, at_object, at_certificate, (z, is_text, left, checked)) some text status picture =

@@ -29,11 +29,11 @@ use Rattle.cert.specs.declared.fault.CheckFault.TheVariants as check_fault
 use Rattle.file_check.specs.declared.checking.ShortBlock.{ShortBlock}
 use Rattle.request.specs.declared.requests.TwinRequest.{TwinRequest}
 use Rattle.request.specs.declared.requests.Request.TheVariants.{Twin}
-use Rattle.host.specs.World.{Files, GivesFile, Holds, IsFree, IsSilent, MayFail, Replaces, World, one_more}
-use Rattle.commands.specs.Inputs.{ASession, Bytes, Datagrams, Opened, Polynomials, HasValue, HaveValues, IsUnopened, IsUnread, Value}
+use Rattle.host.specs.World.{Files, GivesFile, Holds, IsFree, MayFail, Reading, Replaces, World}
+use Rattle.commands.specs.Inputs.{ACertificate, AnObject, ASession, Bytes, Datagrams, Opened, Polynomials, HasValue, HaveValues, IsUnread, Value}
 use Rattle.commands.specs.Lines.{line_of, short_text}
 use Rattle.commands.specs.Commands.{Gives, GivesTwin, Outcome, inputs_of}
-use Rattle.commands.specs.Outcomes.{IsBecause, MayCreate}
+use Rattle.commands.specs.Outcomes.{HasAsked, IsBecause, MayCreate}
 use Rattle.commands.specs.Doing.{HasMade, HasStopped, IsUnwrittenAgain, text_of}
 use Rattle.check_commands.specs.TwinsTold.{AreUnread, HasJudged, HoldsFrames, IsFoundIn, IsJudged, IsUntwinned, TellsNoTwin}
 use Rattle.check_commands.specs.CheckFaults.{fault_of}
@@ -45,10 +45,10 @@ use Rattle.commands.specs.declared.fault.Fault.{Fault}
 use Rattle.commands.specs.declared.fault.Fault.TheVariants as told_as
 use Rattle.commands.specs.declared.output.Unwritten.{Unwritten}
 use Rattle.commands.specs.declared.output.Unwritten.TheVariants as unwritten
-use Rattle.check_commands.proofs.CheckedFiles.{an_object, certificate_unopened, no_certificate, object_unopened}
-use Rattle.commands.proofs.Stopping.{by_unread, kept_whole, may_fail, stopped}
+use Rattle.check_commands.proofs.CheckedFiles.{an_object, no_certificate}
+use Rattle.commands.proofs.Stopping.{by_unread, kept_whole, stopped}
 use Rattle.commands.proofs.Holding.{holds_told}
-use Rattle.commands.proofs.Passing.{session_unopened, unframed}
+use Rattle.commands.proofs.Passing.{certificate_changed, object_changed, session_changed, unframed}
 
 abbrev equal : Result ℕ Unwritten → Result ℕ Unwritten → Type 0
 equal a b = a ≡ b
@@ -76,40 +76,33 @@ a_session None r h = (Datagrams [], tt)
 a_session (Some held) r h = (Datagrams h.2.0, (h.0, h.1, h.2.1))
 
 module _ (w : World) (r : TwinRequest) where
-  pub session_unread : (fault : Fault) → IsUnopened w r.session.now fault → AreUnread w r fault
-  session_unread fault h = inl (session_unopened w r.session.now fault h)
-
   pub frames_unread : (content : Option (List ℕ)) (reliable : Bool) → GivesFile w r.session.now content reliable → (fault : Fault) → IsUnframed content reliable fault → AreUnread w r fault
   frames_unread content reliable given fault h = inl (unframed w r.session.now content reliable given fault h)
 
   pub frames_held : (content : Option (List ℕ)) → Holds w.files r.session.now (λ bytes. content ≡ Some bytes) → AreFrames content → HoldsFrames w.files r
   frames_held content given h = holds_told w.files r.session.now content (λ x. (ds : List (List ℕ)) × IsFramed ds x × AreDatagrams ds) given h
 
-  pub object_unread : (fault : Fault) → HoldsFrames w.files r → IsUnopened w r.object.now fault → AreUnread w r fault
-  object_unread fault framed h = let value = a_session w.files r framed in inr (value.0, value.1, inl (object_unopened w r.object.now fault h))
+  pub object_unread : (fault : Fault) → HoldsFrames w.files r → IsUnread w (AnObject r.object.now) fault → AreUnread w r fault
+  object_unread fault framed h = let value = a_session w.files r framed in inr (value.0, value.1, inl h)
 
-  pub certificate_unread : (fault : Fault) → HoldsFrames w.files r → (content : Option (List ℕ)) → Holds w.files r.object.now (λ bytes. content ≡ Some bytes) → IsUnopened w r.certificate.now fault → AreUnread w r fault
+  pub certificate_unread : (fault : Fault) → HoldsFrames w.files r → (content : Option (List ℕ)) → Holds w.files r.object.now (λ bytes. content ≡ Some bytes) → IsUnread w (ACertificate r.certificate.now) fault → AreUnread w r fault
   certificate_unread fault framed content given h =
       let value = a_session w.files r framed in
       let object = an_object w.files r.object.now content given in
-      inr (value.0, value.1, inr (object.0, object.1, inl (certificate_unopened w r.certificate.now fault h)))
+      inr (value.0, value.1, inr (object.0, object.1, inl h))
 
   -- one of the files was changed
-  pub changed_since : HoldsFrames w.files r → (content : Option (List ℕ)) → Holds w.files r.object.now (λ bytes. content ≡ Some bytes) → (fault : Fault)
-      → HaveChanged w r.session.now r.object.now r.certificate.now fault → AreUnread w r fault
-  changed_since framed content given (told_as.File n) (inl is, may) = inl (is, may)
-  changed_since framed content given (told_as.File n) (inr (inl is), may) = let value = a_session w.files r framed in inr (value.0, value.1, inl (is, may))
-  changed_since framed content given (told_as.File n) (inr (inr is), may) =
-      let value = a_session w.files r framed in
-      let object = an_object w.files r.object.now content given in
-      inr (value.0, value.1, inr (object.0, object.1, inl (is, may)))
-  changed_since framed content given (told_as.Open n) h = absurd h
-  changed_since framed content given told_as.Memory h = absurd h
-  changed_since framed content given (told_as.Frame e) h = absurd h
-  changed_since framed content given (told_as.Certificate e) h = absurd h
-  changed_since framed content given (told_as.Fti e) h = absurd h
-  changed_since framed content given (told_as.Send e) h = absurd h
-  changed_since framed content given (told_as.NoPlace n) h = absurd h
+  module _ (session object text : Option (List ℕ)) (s o t : Bool) (gives_session : GivesFile w r.session.now session s) (gives_object : GivesFile w r.object.now object o)
+      (gives_text : GivesFile w r.certificate.now text t) where
+    pub changed_since : HoldsFrames w.files r → (fault : Fault) → HaveChanged (r.session.now, s) (r.object.now, o) (r.certificate.now, t) fault → AreUnread w r fault
+    changed_since framed fault (inl h) = inl (session_changed w r.session.now s gives_session.fails fault h)
+    changed_since framed fault (inr (inl h)) =
+        let value = a_session w.files r framed in
+        inr (value.0, value.1, inl (object_changed w r.object.now o gives_object.fails fault h))
+    changed_since framed fault (inr (inr h)) =
+        let value = a_session w.files r framed in
+        let bytes = an_object w.files r.object.now object gives_object.bytes in
+        inr (value.0, value.1, inr (bytes.0, bytes.1, inl (certificate_changed w r.certificate.now t gives_text.fails fault h)))
 
 -- ---- the verdict on all datagrams of a session
 
@@ -218,11 +211,11 @@ module _ (w : World) (r : TwinRequest) (session object text : Option (List ℕ))
   frame_unread frame_fault.NoMemory untold h = tt
   frame_unread (frame_fault.NoSuchPlace p) untold h = absurd untold.0.1
 
-  lost_session : (w.files ≡ None) ⊎ ((held : Files) × (w.files ≡ Some held)) → WhereTold session object text (λ x y z. IsFilesFault r.identity reliable x y z check_fault.Session) → MayFail w
+  lost_session : (w.files ≡ None) ⊎ ((held : Files) × (w.files ≡ Some held)) → WhereTold session object text (λ x y z. IsFilesFault r.identity reliable x y z check_fault.Session) → MayFail w (Reading r.session.now)
   lost_session (inl none) h = inl none
   lost_session (inr (held, told)) h = gives_session.fails (where_told held told (λ x y z. IsFilesFault r.identity reliable x y z check_fault.Session) h).2
 
-  lost_object : (w.files ≡ None) ⊎ ((held : Files) × (w.files ≡ Some held)) → WhereTold session object text (λ x y z. IsFilesFault r.identity reliable x y z check_fault.Object) → MayFail w
+  lost_object : (w.files ≡ None) ⊎ ((held : Files) × (w.files ≡ Some held)) → WhereTold session object text (λ x y z. IsFilesFault r.identity reliable x y z check_fault.Object) → MayFail w (Reading r.object.now)
   lost_object (inl none) h = inl none
   lost_object (inr (held, told)) h = gives_object.fails (where_told held told (λ x y z. IsFilesFault r.identity reliable x y z check_fault.Object) h).2
 
@@ -365,7 +358,7 @@ module _ (r : TwinRequest) (short : ShortBlock) where
       → Holds old.files r.object.now (λ bytes. content ≡ Some bytes)
       → ((o : List ℕ) → content ≡ Some o → length o ≡ short.fti.transfer_length → Appends blank contents (twin_bytes short.fti short.block short.arrived_esis.items o)) → AppendsAny blank contents
       → IfSome old.files (λ held. blank ≡ Some []) → mid.files ≡ old.files → IfSome contents (Replaces mid.files new.files r.output.name.now)
-      → new.created ≡ one_more old.created → IsFree old.files r.output.name.now r.output.no_clobber → new.printed ≡ old.printed
+      → HasAsked old new r.output → IsFree old.files r.output.name.now r.output.no_clobber → new.printed ≡ old.printed
       → (done : Done) → done.told ≡ Lines (line_of (short_text (codes "twin block") short.block short.have short.need)) → done.status ≡ 0 → HasMade old new (Twin r) done
   short_made old mid new found content blank contents given written any empty same kept created free silent done lines status =
       let w = written_out old.files found content blank contents given written any in
@@ -388,7 +381,7 @@ module _ (r : TwinRequest) (short : ShortBlock) where
   a_value (Some held) found = (Datagrams found.1.datagrams, found.1.read.0)
 
   lost : (w : World) (files : Option Files) → w.files ≡ files → IsFoundIn files r (No (Thin short.block short.have short.need)) (Some short) → (content : Option (List ℕ)) (reliable : Bool)
-      → GivesFile w r.object.now content reliable → ((o : List ℕ) → content ≡ Some o → short.fti.transfer_length ≤ length o → reliable ≡ false) → MayFail w
+      → GivesFile w r.object.now content reliable → ((o : List ℕ) → content ≡ Some o → short.fti.transfer_length ≤ length o → reliable ≡ false) → MayFail w (Reading r.object.now)
   lost w None is found content reliable given h = inl is
   lost w (Some held) is found content reliable given h =
       let there = content_is held found content (rw is at given.bytes) in
@@ -416,21 +409,12 @@ module _ (r : TwinRequest) (short : ShortBlock) where
       (subst (λ (x : Result ℕ Unwritten). IfErr x (IsUntwinned short.fti.transfer_length content reliable r.object.now)) is h)
 
   -- or what was read for it has changed since
-  pub unwritten_again : (old mid new : World) → mid.files ≡ old.files → IsSilent old mid → IsFoundIn old.files r (No (Thin short.block short.have short.need)) (Some short) → (content : Option (List ℕ)) (reliable : Bool)
+  pub unwritten_again : (old new : World) → IsFoundIn old.files r (No (Thin short.block short.have short.need)) (Some short) → (content : Option (List ℕ)) (reliable : Bool)
       → GivesFile old r.object.now content reliable → (own : Result ℕ Unwritten) → IfErr own (IsUntwinned short.fti.transfer_length content reliable r.object.now) → (written : Result ℕ Unwritten)
-      → IfErr written (λ e. (own ≡ Err e) ⊎ IsUnwrittenAgain mid r.object.now e) → (fault : Fault) → written ≡ Err (unwritten.Fault fault) → IsBecause old new (Twin r) [] fault
-  unwritten_again old mid new files silent found content reliable given own why (Ok n) h fault is = absurd (cc)
-  unwritten_again old mid new files silent found content reliable given own why (Err e) (inl same) fault is = unwritten_why old new found content reliable given own why fault (same ∙ is)
-  unwritten_again old mid new files silent found content reliable given own why (Err e) (inr again) fault is = changed fault (subst (λ (u : Unwritten). IsUnwrittenAgain mid r.object.now u) (fault_of_err e fault is) again)
+      → IfErr written (λ e. (own ≡ Err e) ⊎ IsUnwrittenAgain reliable r.object.now e) → (fault : Fault) → written ≡ Err (unwritten.Fault fault) → IsBecause old new (Twin r) [] fault
+  unwritten_again old new found content reliable given own why (Ok n) h fault is = absurd (cc)
+  unwritten_again old new found content reliable given own why (Err e) (inl same) fault is = unwritten_why old new found content reliable given own why fault (same ∙ is)
+  unwritten_again old new found content reliable given own why (Err e) (inr again) fault is = changed fault (subst (λ (u : Unwritten). IsUnwrittenAgain reliable r.object.now u) (fault_of_err e fault is) again)
     where
-      changed : (f : Fault) → HasChanged mid r.object.now f → IsBecause old new (Twin r) [] f
-      changed (told_as.File n) (is, fails) =
-          (let value = a_value old.files found in
-          by_unread old new (Twin r) [] (told_as.File n) (inr (value.0, value.1, inl (is, may_fail old mid files silent fails))))
-      changed (told_as.Open n) h = absurd h
-      changed told_as.Memory h = absurd h
-      changed (told_as.Frame e) h = absurd h
-      changed (told_as.Certificate e) h = absurd h
-      changed (told_as.Fti e) h = absurd h
-      changed (told_as.Send e) h = absurd h
-      changed (told_as.NoPlace n) h = absurd h
+      changed : (f : Fault) → HasChanged reliable r.object.now f → IsBecause old new (Twin r) [] f
+      changed f h = (let value = a_value old.files found in by_unread old new (Twin r) [] f (inr (value.0, value.1, inl (object_changed old r.object.now reliable given.fails f h))))

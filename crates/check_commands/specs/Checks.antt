@@ -10,14 +10,15 @@ use Rattle.cert.specs.Report.{IsReport, OnYes}
 use Rattle.cert.specs.declared.verdict.Verdict.{Verdict}
 use Rattle.request.specs.declared.requests.CheckRequest.{CheckRequest}
 use Rattle.request.specs.declared.requests.Request.TheVariants.{Check}
-use Rattle.host.specs.World.{Files, MayFail, World}
+use Rattle.host.specs.World.{Files}
 use Rattle.commands.specs.Inputs.{Opened, Bytes, Polynomials, HaveValues}
-use Rattle.commands.specs.Commands.{inputs_of, status_of, TellsVerdict}
+use Rattle.commands.specs.Commands.{inputs_of, IsCheckStatus, TellsVerdict}
 use Rattle.check_commands.specs.declared.check.Answered.{Answered}
 use Rattle.commands.specs.Doing.{text_of}
 use Rattle.check_commands.specs.Drawing.{HasDrawn}
 use Rattle.commands.specs.declared.fault.Fault.{Fault}
-use Rattle.commands.specs.declared.fault.Fault.TheVariants.{File, Memory, Frame}
+use Rattle.commands.specs.declared.fault.Fault.TheVariants.{Memory, Frame}
+use Rattle.commands.specs.ReadingInputs.{HasChanged}
 
 -- behind datagrams that have no reason against them comes no frame, or there is no memory
 abbrev pub IsNotChecked : Identity → Bool → Option (List ℕ) → List ℕ → CertificateValue → Fault
@@ -35,7 +36,7 @@ pub record TellsCheck (r : CheckRequest) (old new : Option (List ℕ)) (object :
   pub verdict : Verdict
   pub checked : IsCheckedFrom r.identity old new object z verdict
   pub text : TellsVerdict r.summary verdict (text_of answered.done.told)
-  pub status : answered.done.status ≡ status_of verdict
+  pub status : IsCheckStatus r verdict answered.done.status
   pub picture : HasDrawn r.picture verdict answered.picture
 
 -- the lines, the status and the picture of the verdict on what the files of a request hold
@@ -56,7 +57,7 @@ pub record TellsSome (r : CheckRequest) (answered : Answered) : Type 0 where
   pub valid : IsValidFti fti
   pub report : OnYes verdict (IsReport r.identity datagrams fti)
   pub text : TellsVerdict r.summary verdict (text_of answered.done.told)
-  pub status : answered.done.status ≡ status_of verdict
+  pub status : IsCheckStatus r verdict answered.done.status
   pub picture : HasDrawn r.picture verdict answered.picture
 
 -- what is told of a request; of files whose bytes aren't told, of some datagrams
@@ -66,11 +67,11 @@ TellsRequest files r answered =
 
 -- ---- files that are checked where they stand
 
--- one of these files isn't as it was when it was opened, which is so only where the host may fail
-abbrev pub HaveChanged : World → List ℕ → List ℕ → List ℕ → Fault → Type 0
-HaveChanged world session object certificate (File read) =
-    ((read.now ≡ session) ⊎ (read.now ≡ object) ⊎ (read.now ≡ certificate)) × MayFail world
-HaveChanged world session object certificate fault = ⊥
+-- a file of one of these names, each of which is reliable or not, isn't as it was when it was opened
+abbrev pub HaveChanged : List ℕ × Bool → List ℕ × Bool → List ℕ × Bool → Fault → Type 0
+HaveChanged session object certificate fault =
+    HasChanged session.1 session.0 fault ⊎ HasChanged object.1 object.0 fault
+    ⊎ HasChanged certificate.1 certificate.0 fault
 
 -- a fact of what a request's files hold, where they tell it
 abbrev pub OfFiles : Option Files → CheckRequest → (List ℕ → List ℕ → List ℕ → Type 0) → Type 0

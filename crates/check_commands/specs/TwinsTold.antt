@@ -1,13 +1,9 @@
 -- What is read for a twin, and what is told of it.
-use Rattle.std.specs.Prelude.{◌≡◌, ◌≤◌, ℕ, Bool, false, List, [], ◌∷◌, length, Option, Some, None}
-use Rattle.std.specs.Prelude.{Vec, codes, IfSome, ⊤}
-use Rattle.std.specs.declared.alloc.Global.{Global}
+use Rattle.std.specs.Prelude.{◌≡◌, ◌≤◌, ℕ, Bool, false, List, [], ◌∷◌, length, Option, Some}
+use Rattle.std.specs.Prelude.{codes, IfSome, ⊤}
 use Rattle.session.specs.Frames.{AreDatagrams, IsFramed}
-use Rattle.reception.specs.declared.scope.Identity.{Identity}
 use Rattle.certificate.specs.Certificate.{Certificate as CertificateValue}
-use Rattle.cert.specs.Twins.{IsTwinOfSession}
 use Rattle.cert.specs.Verdict.{IsVerdict}
-use Rattle.cert.specs.declared.verdict.Reason.TheVariants.{Thin}
 use Rattle.cert.specs.declared.verdict.Verdict.{Verdict}
 use Rattle.cert.specs.declared.verdict.Verdict.TheVariants.{Yes, No}
 use Rattle.file_check.specs.Shortness.{IsShortFound, MakesTwins}
@@ -16,59 +12,21 @@ use Rattle.request.specs.declared.requests.TwinRequest.{TwinRequest}
 use Rattle.request.specs.declared.requests.Request.TheVariants.{Twin}
 use Rattle.host.specs.World.{Files, Holds, World}
 use Rattle.commands.specs.Inputs.{Datagrams, Bytes, Polynomials, HaveValues, IsFirstUnread}
-use Rattle.commands.specs.Lines.{line_of, short_text, verdict_text}
+use Rattle.commands.specs.Lines.{line_of, verdict_text}
 use Rattle.commands.specs.Commands.{inputs_of}
 use Rattle.commands.specs.declared.fault.Fault.{Fault}
 use Rattle.commands.specs.declared.fault.Fault.TheVariants.{File, Memory}
 use Rattle.commands.specs.declared.output.Unwritten.{Unwritten}
 use Rattle.commands.specs.declared.output.Unwritten.TheVariants.{Writing, Fault as ByFault}
-use Rattle.check_commands.specs.declared.twin.Answered.{Answered}
-use Rattle.check_commands.specs.declared.twin.Inputs.{Inputs}
-use Rattle.check_commands.specs.declared.twin.OpenInputs.{OpenInputs}
 
--- the files give them
-abbrev pub GivesInputs : Option Files → TwinRequest → Inputs → Type 0
-GivesInputs files r inputs =
-    HaveValues files (inputs_of (Twin r))
-    (Datagrams inputs.session ∷ Bytes inputs.object.items ∷ Polynomials inputs.certificate ∷ [])
-
--- one of them doesn't, and those before it do
+-- an input can't be had, and those before it can
 abbrev pub AreUnread : World → TwinRequest → Fault → Type 0
 AreUnread world r fault = IsFirstUnread world (inputs_of (Twin r)) fault
-
--- the line that a verdict gives, and the other object where a block is short
-abbrev pub IsToldOf : Identity → Verdict → Inputs → Answered → Type 0
-IsToldOf who (Yes report) inputs answered =
-    (answered.line ≡ line_of (codes "no twin")) × (answered.other ≡ None)
-IsToldOf who (No (Thin block have need)) inputs answered =
-    (answered.line ≡ line_of (short_text (codes "twin block") block have need))
-    × (twin : Vec ℕ Global) × (answered.other ≡ Some twin)
-    × IsTwinOfSession who inputs.certificate.fti block inputs.session inputs.object.items twin.items
-IsToldOf who (No reason) inputs answered =
-    (answered.line ≡ verdict_text (No reason)) × (answered.other ≡ None)
-
--- those of the verdict on the inputs
-abbrev pub TellsTwin : Identity → Inputs → Answered → Type 0
-TellsTwin who inputs answered =
-    (verdict : Verdict)
-    × IsVerdict who inputs.session inputs.object.items inputs.certificate verdict
-    × IsToldOf who verdict inputs answered
-
--- ---- inputs that are opened
 
 -- the file of a session holds frames
 abbrev pub HoldsFrames : Option Files → TwinRequest → Type 0
 HoldsFrames files r = Holds files r.session.now
     (λ bytes. (datagrams : List (List ℕ)) × IsFramed datagrams bytes × AreDatagrams datagrams)
-
--- these are the files of a request that are opened
-pub record AreOpened {I : Type 0} (opened : OpenInputs I) (session object certificate : I)
-    : Type 0 where
-  pub session_is : session ≡ opened.session
-  pub object_is : opened.object ≡ Some object
-  pub certificate_is : opened.certificate ≡ Some certificate
-
--- ---- files that are read at offsets
 
 -- the verdict is that on what the files hold, and where a block is short, each twin that is made
 -- for what came is one of the session

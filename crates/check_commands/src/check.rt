@@ -1,12 +1,15 @@
 //! The command `check`.
-ghost use Rattle.std.specs.Prelude.{◌≡◌, ◌≤◌, ◌++◌, ℕ, List, false, decimal, IfOk, IfErr, OnOk};
+ghost use Rattle.std.specs.Prelude.{◌≡◌, ◌<◌, ◌≤◌, ◌⊎◌, ◌++◌, ℕ, List, true, false, decimal};
+ghost use Rattle.std.specs.Prelude.{IfOk, IfErr, OnOk};
 ghost use Rattle.certificate.specs.Certificate.{IsCertificate};
 ghost use Rattle.cert.specs.FromReader.{IsCheckFault, IsCheckedFrom, IsRefusedBehind};
 ghost use Rattle.cert.specs.Report.{OnYes};
 ghost use Rattle.cert.specs.declared.verdict.Verdict.TheVariants.{No};
 ghost use Rattle.request.specs.declared.requests.Request.TheVariants.{Check};
-ghost use Rattle.commands.specs.Commands.{TellsVerdict, status_of as verdict_status};
+ghost use Rattle.commands.specs.Commands.{IsCheckStatus, TellsVerdict};
 ghost use Rattle.commands.specs.Doing.{HasMade, HasStopped, text_of};
+ghost use Rattle.commands.specs.Inputs.{ACertificate, IsUnread};
+ghost use Rattle.commands.specs.Wholes.{content_of, reliable_of};
 ghost use Rattle.file_check.specs.Answers.{HasChecked, HasCheckedSome};
 ghost use Rattle.file_check.specs.Files.{IsVerdictIn, IsVerdictOnSome};
 ghost use Rattle.host.specs.World.{GivesFile};
@@ -20,10 +23,10 @@ use crate::drawing::{Drawn, picture_of};
 use crate::faults::check_fault;
 use crate::summary::summary_lines;
 use cert::{CheckFault, Checker, Reason, Report, Survey, Verdict};
-use certificate::Certificate;
+use certificate::{CertFault, Certificate};
 use commands::{
-    Done, Fault, Text, Told, Why, certificate_in, object_in, open, put_packet_fault,
-    read_certificate, write_output,
+    Done, Fault, Text, Told, Whole, Why, open, open_whole, put_packet_fault, read_certificate,
+    read_object, see_whole, write_output,
 };
 use file_check::{Checked, Files, check_files};
 use host::Host;
@@ -66,8 +69,8 @@ pub fn check<'a, H: Host>(
     }
 }
 
-// What is told of the files of a request. They are checked where they stand, if none of them is a
-// pipe or a device.
+// What is told of the files of a request. The session is checked where it stands, or, if it is a pipe
+// or a device, as its frames come.
 fn read_and_answer<'a, H: Host>(
     alloc: Global,
     host: &H,
@@ -78,41 +81,55 @@ fn read_and_answer<'a, H: Host>(
         (HasStopped (H.world host.now) (H.world host.now) (Check request.now)) }
 {
     let mut session = open(host, request.session)?;
-    let mut object = open(host, request.object)?;
-    let (Some(_), Some(length)) = (host.length_of(&session), host.length_of(&object)) else {
-        let bytes = object_in(alloc, host, request.object, &mut object)?;
-        let certificate = read_certificate(alloc, host, request.certificate)?;
-        return answer_of(alloc, &mut session, bytes.as_slice(), &certificate, request);
-    };
-    let mut certificate = open(host, request.certificate)?;
-    if host.length_of(&certificate).is_some() {
+    if host.length_of(&session).is_some() {
+        let session = Whole::File(session);
+        let object = open_whole(alloc, host, request.object)?;
+        let certificate = open_certificate(alloc, host, request.certificate)?;
         let files = Files {
             session: &session,
             object: &object,
             certificate: &certificate,
         };
-        return answer_files(alloc, host, request, &files, length);
+        return answer_files(alloc, host, request, &files);
     }
-    let bytes = object_in(alloc, host, request.object, &mut object)?;
-    let certificate = certificate_in(alloc, host, request.certificate, &mut certificate)?;
-    answer_of(alloc, &mut session, bytes.as_slice(), &certificate, request)
+    let object = read_object(alloc, host, request.object)?;
+    let certificate = read_certificate(alloc, host, request.certificate)?;
+    answer_of(alloc, &mut session, object.as_slice(), &certificate, request)
 }
 
-// What is told of files that stand where they are, of an object of so many bytes.
+/// Opens a certificate that is read at offsets. That a pipe can't be read is told as its fault.
+pub(crate) fn open_certificate<'a, H: Host>(
+    alloc: Global,
+    host: &H,
+    name: &'a str,
+) -> Result<Whole<H::Input>, Fault<'a>>
+    ensures content { IfOk result (λ whole. GivesFile (H.world host.now) name.now
+        (content_of H.Input.content whole) (reliable_of H.Input.reliable whole)) }
+    ensures fault { IfErr result (IsUnread (H.world host.now) (ACertificate name.now)) }
+{
+    match open_whole(alloc, host, name) {
+        Ok(whole) => Ok(whole),
+        Err(Fault::File(_)) => Err(Fault::Certificate(CertFault::Io)),
+        Err(fault) => Err(fault),
+    }
+}
+
+// What is told of files that stand where they are.
 fn answer_files<'a, H: Host>(
     alloc: Global,
     host: &H,
     request: &CheckRequest<'a>,
-    files: &Files<'_, H::Input, H::Input, H::Input>,
-    object_length: u64,
+    files: &Files<'_, Whole<H::Input>, Whole<H::Input>, Whole<H::Input>>,
 ) -> Result<Answered<'a>, Fault<'a>>
     requires session { GivesFile (H.world host.now) request.now.session.now
-        (H.Input.content files.now.session.now) (H.Input.reliable files.now.session.now) }
+        (content_of H.Input.content files.now.session.now)
+        (reliable_of H.Input.reliable files.now.session.now) }
     requires object { GivesFile (H.world host.now) request.now.object.now
-        (H.Input.content files.now.object.now) (H.Input.reliable files.now.object.now) }
+        (content_of H.Input.content files.now.object.now)
+        (reliable_of H.Input.reliable files.now.object.now) }
     requires certificate { GivesFile (H.world host.now) request.now.certificate.now
-        (H.Input.content files.now.certificate.now)
-        (H.Input.reliable files.now.certificate.now) }
+        (content_of H.Input.content files.now.certificate.now)
+        (reliable_of H.Input.reliable files.now.certificate.now) }
     ensures ok { IfOk result (TellsRequest (H.world host.now).files request.now) }
     ensures fault { IfErr result
         (HasStopped (H.world host.now) (H.world host.now) (Check request.now)) }
@@ -127,7 +144,8 @@ fn answer_files<'a, H: Host>(
         files,
     )?;
     let (verdict, survey) = surveyed_verdict(alloc, &checked, request)?;
-    Ok(answer_verdict(alloc, request, object_length, &verdict, &survey)?)
+    let length = checked.fti().transfer_length();
+    Ok(answer_verdict(alloc, request, length, &verdict, &survey)?)
 }
 
 // The verdict of a check, and its survey, where a picture is asked for.
@@ -155,21 +173,16 @@ fn surveyed_verdict(
 pub(crate) fn see_files<'a, H: Host>(
     host: &H,
     names: (&'a str, &'a str, &'a str),
-    files: &Files<'_, H::Input, H::Input, H::Input>,
+    files: &Files<'_, Whole<H::Input>, Whole<H::Input>, Whole<H::Input>>,
 ) -> Result<(), Fault<'a>>
-    ensures { IfErr result (HaveChanged (H.world host.now)
-        names.entry.0.now names.entry.1.now names.entry.2.now) }
+    ensures { IfErr result (HaveChanged
+        (names.entry.0.now, reliable_of H.Input.reliable files.now.session.now)
+        (names.entry.1.now, reliable_of H.Input.reliable files.now.object.now)
+        (names.entry.2.now, reliable_of H.Input.reliable files.now.certificate.now)) }
 {
-    if !host.is_unchanged(files.session) {
-        return Err(Fault::File(names.0));
-    }
-    if !host.is_unchanged(files.object) {
-        return Err(Fault::File(names.1));
-    }
-    if !host.is_unchanged(files.certificate) {
-        return Err(Fault::File(names.2));
-    }
-    Ok(())
+    see_whole(host, names.0, files.session)?;
+    see_whole(host, names.1, files.object)?;
+    see_whole(host, names.2, files.certificate)
 }
 
 // The verdict on the frames that a reader has left, and its survey, where a picture is asked for.
@@ -240,37 +253,54 @@ fn answer_verdict<'a>(
     ensures text { IfOk result (λ answered.
         TellsVerdict request.now.summary verdict.now (text_of answered.done.told)) }
     ensures status { IfOk result (λ answered.
-        answered.done.status ≡ verdict_status verdict.now) }
+        IsCheckStatus request.now verdict.now answered.done.status) }
     ensures picture { IfOk result (λ answered.
         HasDrawn request.now.picture verdict.now answered.picture) }
 {
     Ok(Answered {
-        done: told_of(alloc, request.summary, verdict)?,
+        done: told_of(alloc, request, verdict)?,
         picture: picture_of(alloc, request, object_length, verdict, survey)?,
     })
 }
 
-// What is told of a verdict, by whether a summary is asked for.
-fn told_of(alloc: Global, summary: bool, verdict: &Verdict) -> Result<Done, AllocError>
+// What is told of a verdict, by what is asked for.
+fn told_of(
+    alloc: Global,
+    request: &CheckRequest<'_>,
+    verdict: &Verdict,
+) -> Result<Done, AllocError>
     requires { OnYes verdict.now CanBeSummed }
-    ensures text { IfOk result (λ done. TellsVerdict summary verdict.now (text_of done.told)) }
-    ensures status { IfOk result (λ done. done.status ≡ verdict_status verdict.now) }
+    ensures text { IfOk result (λ done.
+        TellsVerdict request.now.summary verdict.now (text_of done.told)) }
+    ensures status { IfOk result (λ done.
+        IsCheckStatus request.now verdict.now done.status) }
 {
     Ok(Done {
-        told: Told::Lines(verdict_text(alloc, summary, verdict)?),
-        status: status_of(verdict),
+        told: Told::Lines(verdict_text(alloc, request.summary, verdict)?),
+        status: status_of(request, verdict),
         why: Why::from(verdict),
     })
 }
 
-fn status_of(verdict: &Verdict) -> u8
-    ensures value { result ≡ verdict_status verdict.now }
+fn status_of(request: &CheckRequest<'_>, verdict: &Verdict) -> u8
+    ensures status { IsCheckStatus request.now verdict.now result }
     ensures small { result ≤ 3 }
 {
     match verdict {
-        Verdict::Yes(_) => 0,
+        Verdict::Yes(report) if bears(request, report) => 0,
+        Verdict::Yes(_) => 3,
         Verdict::No(_) => 1,
     }
+}
+
+// Whether the session bears the losses that it is asked to.
+fn bears(request: &CheckRequest<'_>, report: &Report) -> bool
+    ensures yes { result ≡ true → request.now.margin ≤ report.now.margin
+        × request.now.burst ≤ report.now.burst }
+    ensures no { result ≡ false → report.now.margin < request.now.margin
+        ⊎ report.now.burst < request.now.burst }
+{
+    request.margin as usize <= report.margin && request.burst as usize <= report.burst
 }
 
 // The lines of a verdict: of a yes the summary, where one is asked for.

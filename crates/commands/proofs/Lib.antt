@@ -3,3 +3,4 @@ pub mod Numbered
 pub mod Stopping
 pub mod Holding
 pub mod Passing
+mod HeldFrames

@@ -1,13 +1,13 @@
--- A session's frames that were gone over.
+-- A session's frames that were gone over, and files that have changed.
 use Rattle.std.proofs.Common.{◌≡◌, ◌∙◌, ℕ, Bool, false, List, [], Option, Some, None, Result, Ok, Err, refl, sym, subst, arith}
 use Rattle.std.specs.Prelude.{IfErr, IfSome, OnOk}
 use Rattle.session.specs.Extents.{AreFrames}
 use Rattle.session.specs.Frames.{AreDatagrams, IsSessionFault, StopsAt}
 use Rattle.session.specs.declared.frame.FrameFault.{FrameFault}
 use Rattle.session.specs.declared.frame.FrameFault.TheVariants as frame_fault
-use Rattle.host.specs.World.{GivesFile, World}
-use Rattle.commands.specs.Inputs.{ASession, IsUnopened, IsUnread}
-use Rattle.commands.specs.ReadingInputs.{IsUnframed}
+use Rattle.host.specs.World.{GivesFile, MayFail, Reading, World}
+use Rattle.commands.specs.Inputs.{ACertificate, AnObject, ASession, IsUnopened, IsUnread}
+use Rattle.commands.specs.ReadingInputs.{HasChanged, IsUnframed}
 use Rattle.commands.specs.declared.fault.Fault.{Fault}
 use Rattle.commands.specs.declared.fault.Fault.TheVariants as told_as
 use Rattle.commands.proofs.Holding.{holds_told}
@@ -88,3 +88,34 @@ module _ (w : World) (name : List ℕ) (content : Option (List ℕ)) (reliable :
   unframed (told_as.Fti e) h = absurd h
   unframed (told_as.Send e) h = absurd h
   unframed (told_as.NoPlace n) h = absurd h
+
+-- a file that was opened has changed
+pub session_changed : (w : World) (name : List ℕ) (reliable : Bool) → (reliable ≡ false → MayFail w (Reading name)) → (fault : Fault) → HasChanged reliable name fault → IsUnread w (ASession name) fault
+session_changed w name reliable fails (told_as.Open n) h = absurd h
+session_changed w name reliable fails (told_as.File n) (is, not) = (is, fails not)
+session_changed w name reliable fails told_as.Memory h = absurd h
+session_changed w name reliable fails (told_as.Frame e) h = absurd h
+session_changed w name reliable fails (told_as.Certificate e) h = absurd h
+session_changed w name reliable fails (told_as.Fti e) h = absurd h
+session_changed w name reliable fails (told_as.Send e) h = absurd h
+session_changed w name reliable fails (told_as.NoPlace n) h = absurd h
+
+pub object_changed : (w : World) (name : List ℕ) (reliable : Bool) → (reliable ≡ false → MayFail w (Reading name)) → (fault : Fault) → HasChanged reliable name fault → IsUnread w (AnObject name) fault
+object_changed w name reliable fails (told_as.Open n) h = absurd h
+object_changed w name reliable fails (told_as.File n) (is, not) = (is, fails not)
+object_changed w name reliable fails told_as.Memory h = absurd h
+object_changed w name reliable fails (told_as.Frame e) h = absurd h
+object_changed w name reliable fails (told_as.Certificate e) h = absurd h
+object_changed w name reliable fails (told_as.Fti e) h = absurd h
+object_changed w name reliable fails (told_as.Send e) h = absurd h
+object_changed w name reliable fails (told_as.NoPlace n) h = absurd h
+
+pub certificate_changed : (w : World) (name : List ℕ) (reliable : Bool) → (reliable ≡ false → MayFail w (Reading name)) → (fault : Fault) → HasChanged reliable name fault → IsUnread w (ACertificate name) fault
+certificate_changed w name reliable fails (told_as.Open n) h = absurd h
+certificate_changed w name reliable fails (told_as.File n) (is, not) = (is, fails not)
+certificate_changed w name reliable fails told_as.Memory h = absurd h
+certificate_changed w name reliable fails (told_as.Frame e) h = absurd h
+certificate_changed w name reliable fails (told_as.Certificate e) h = absurd h
+certificate_changed w name reliable fails (told_as.Fti e) h = absurd h
+certificate_changed w name reliable fails (told_as.Send e) h = absurd h
+certificate_changed w name reliable fails (told_as.NoPlace n) h = absurd h

@@ -1,15 +1,15 @@
 -- Why a request wasn't done, by its parts.
-use Rattle.std.proofs.Common.{◌≡◌, ◌⊎◌, ◌∙◌, ℕ, true, List, [], Option, Some, None, Result, Ok, Err, inl, inr, refl, sym, subst}
+use Rattle.std.proofs.Common.{◌≡◌, ◌⊎◌, ◌∙◌, ℕ, Bool, true, List, [], Option, Some, None, Result, Ok, Err, inl, inr, ap, refl, sym, subst}
 use Rattle.std.specs.Prelude.{IfSome, IfErr, IsErrAnd}
 use Rattle.std.specs.Io.KnownBytes.{Appends}
 use Rattle.std.proofs.KnownBytes.{Appends-nil}
 use Rattle.request.specs.declared.requests.Output.{Output}
 use Rattle.request.specs.declared.requests.Request.{Request}
 use Rattle.request.specs.declared.requests.Request.TheVariants.{Check, Twin, Show, Encode, Certify, Convert, Decode, Follow, Drop, Salvage, Join}
-use Rattle.host.specs.World.{Files, World, MayFail, KeepsFiles, IsFree, IsSilent, IsToStay, Replaces, one_more}
+use Rattle.host.specs.World.{Call, Creating, Writing, Files, World, MayFail, KeepsFiles, IsFree, IsSilent, IsToStay, Replaces}
 use Rattle.commands.specs.Inputs.{Value, HaveValues}
 use Rattle.commands.specs.Commands.{Outcome, Gives, inputs_of, output_of, Refuses}
-use Rattle.commands.specs.Outcomes.{IsDone, IsMade, IsOutput, IsUnmade, IsUnhad, IsUnprinted, IsBecause, BeginsText, GivesOutput, Makes, MayCreate, MayHaveCreated}
+use Rattle.commands.specs.Outcomes.{HasAsked, IsDone, IsMade, IsOutput, IsUnmade, IsUnhad, IsUnprinted, IsBecause, BeginsText, GivesOutput, Makes, MayCreate, MayHaveCreated}
 use Rattle.commands.specs.Doing.{text_of, HasMade, HasStopped, IsUncreated, IsUncommitted, IsUndone, IsUnkept, IsUnwritten}
 use Rattle.commands.specs.declared.done.Done.{Done}
 use Rattle.commands.specs.declared.fault.Fault.{Fault}
@@ -61,9 +61,9 @@ stopped w r fault why = record {
 
 -- ---- at an output
 
-pub may_fail : (old mid : World) → mid.files ≡ old.files → IsSilent old mid → MayFail mid → MayFail old
-may_fail old mid files silent (inl untold) = inl (sym files ∙ untold)
-may_fail old mid files silent (inr fallible) = inr (sym silent.fallible ∙ fallible)
+pub may_fail : (old mid : World) (call : Call) → mid.files ≡ old.files → mid.refused ≡ old.refused → MayFail mid call → MayFail old call
+may_fail old mid call files refused (inl untold) = inl (sym files ∙ untold)
+may_fail old mid call files refused (inr refuses) = inr (sym (ap (λ (f : Call → Bool). f call) refused) ∙ refuses)
 
 -- there was no memory for an output
 pub no_output : (old mid : World) (r : Request) → mid.files ≡ old.files → IsSilent old mid → mid.created ≡ old.created → HasStopped old mid r Memory
@@ -92,7 +92,7 @@ kept_whole (Some held) mid new name bytes blank (Some x) is gained same kept =
     let whole : x ≡ bytes = subst (λ (o : Option (List ℕ)). Appends o (Some x) bytes) is gained in
     subst (λ (ys : List ℕ). Replaces (Some held) new name ys) whole (subst (λ (f : Option Files). Replaces f new name x) same kept)
 
-module _ (old mid : World) (r : Request) (output : Output) (is : output_of r ≡ Some output) (files : mid.files ≡ old.files) (silent : IsSilent old mid) (created : mid.created ≡ one_more old.created)
+module _ (old mid : World) (r : Request) (output : Output) (is : output_of r ≡ Some output) (files : mid.files ≡ old.files) (silent : IsSilent old mid) (created : HasAsked old mid output)
     (new : World) (silent_then : IsSilent mid new) (created_then : new.created ≡ mid.created) where
   -- what they give was done
   pub all_made : (text : List ℕ) (status : ℕ) (blank contents : Option (List ℕ)) → IfSome old.files (λ held. blank ≡ Some []) → WritesGiven old.files r text status blank contents
@@ -116,27 +116,27 @@ module _ (old mid : World) (r : Request) (output : Output) (is : output_of r ≡
   }
 
   module _ (may : MayCreate old.files r) (files_then : new.files ≡ mid.files) where
+    asked : HasAsked old new output
+    asked = created_then ∙ created
+
     halted : (fault : Fault) → IsBecause old new r [] fault → HasStopped old new r fault
     halted fault why = record {
-      stopped = record { because = why; before = begins_nothing old.files r; files = files_then ∙ files; created = inr (created_then ∙ created, may) };
+      stopped = record { because = why; before = begins_nothing old.files r; files = files_then ∙ files; created = inr ((output, is, asked), may) };
       silent = silent_then.printed ∙ silent.printed;
     }
 
-    asked : new.created ≡ one_more old.created
-    asked = created_then ∙ created
-
-    module _ (failure : Fault) (tells : MayFail old → new.created ≡ one_more old.created → IsUnmade old new r failure) where
-      by_writing : (told : Fault) → IsUnwritten mid failure told → HasStopped old new r told
+    module _ (failure : Fault) (tells : MayFail old (Writing output.name.now) → HasAsked old new output → IsUnmade old new r failure) where
+      by_writing : (told : Fault) → IsUnwritten mid output failure told → HasStopped old new r told
       by_writing told (inl none) = halted told (subst (λ (f : Fault). IsBecause old new r [] f) (sym none) tt)
       by_writing told (inr (same, fails)) =
           halted told (subst (λ (f : Fault). IsBecause old new r [] f) (sym same)
-          (by_unmade old new r [] failure (tells (may_fail old mid files silent fails) asked)))
+          (by_unmade old new r [] failure (tells (may_fail old mid (Writing output.name.now) files silent.refused fails) asked)))
 
       by_name : (told : Fault) → IsUncreated mid output told → GivesOutput old.files r → IsUnmade old new r told
       by_name (Open name) why gives = (output, is, why.0, untaken why.1, gives, asked)
         where
-          untaken : MayFail mid ⊎ IsToStay mid.files output.name.now output.no_clobber → MayFail old ⊎ IsToStay old.files output.name.now output.no_clobber
-          untaken (inl fails) = inl (may_fail old mid files silent fails)
+          untaken : MayFail mid (Creating output.name.now) ⊎ IsToStay mid.files output.name.now output.no_clobber → MayFail old (Creating output.name.now) ⊎ IsToStay old.files output.name.now output.no_clobber
+          untaken (inl fails) = inl (may_fail old mid (Creating output.name.now) files silent.refused fails)
           untaken (inr stays) = inr (subst (λ (f : Option Files). IsToStay f output.name.now output.no_clobber) files stays)
       by_name (File n) why gives = absurd why
       by_name Memory why gives = absurd why
@@ -160,21 +160,20 @@ passed_on (Err x) e P h p = subst P (sym h) p
 
 -- a file that was to be made of bytes
 pub unkept : (old new : World) (r : Request) (output : Output) → output_of r ≡ Some output → new.files ≡ old.files → IsSilent old new → MayCreate old.files r → GivesOutput old.files r
-    → (failure told : Fault) → (MayFail old → new.created ≡ one_more old.created → IsUnmade old new r failure) → IsUnkept old new output failure told → HasStopped old new r told
+    → (failure told : Fault) → (MayFail old (Writing output.name.now) → HasAsked old new output → IsUnmade old new r failure) → IsUnkept old new output failure told → HasStopped old new r told
 unkept old new r output is files silent may gives failure told tells (inl (none, created)) =
     subst (λ (f : Fault). HasStopped old new r f) (sym none) (no_output old new r files silent created)
 unkept old new r output is files silent may gives failure told tells (inr (why, created)) =
     uncommitted old new r output is files silent created new (unchanged new) refl may refl failure tells (Ok 0) told (λ n e. gives) (λ f e. absurd (cc)) (seen why)
   where
     unchanged : (w : World) → IsSilent w w
-    unchanged w = record { printed = refl; failed = refl; fallible = refl }
+    unchanged w = record { printed = refl; failed = refl; refused = refl }
 
-    since : MayFail old → MayFail new
-    since (inl untold) = inl (files ∙ untold)
-    since (inr fallible) = inr (silent.fallible ∙ fallible)
+    since : (call : Call) → MayFail old call → MayFail new call
+    since call fails = may_fail new old call (sym files) (sym silent.refused) fails
 
     named : (f : Fault) → IsUncreated old output f → IsUncreated new output f
-    named (Open name) (is, inl fails) = (is, inl (since fails))
+    named (Open name) (is, inl fails) = (is, inl (since (Creating output.name.now) fails))
     named (Open name) (is, inr stays) = (is, inr (subst (λ (f : Option Files). IsToStay f output.name.now output.no_clobber) (sym files) stays))
     named (File n) why = absurd why
     named Memory why = absurd why
@@ -187,7 +186,7 @@ unkept old new r output is files silent may gives failure told tells (inr (why, 
     seen : IsUncommitted old output (Ok 0) failure told → IsUncommitted new output (Ok 0) failure told
     seen (inl name) = inl (named told name)
     seen (inr (inl none)) = inr (inl none)
-    seen (inr (inr (same, fails))) = inr (inr (same, since fails))
+    seen (inr (inr (same, fails))) = inr (inr (same, since (Writing output.name.now) fails))
 
 -- nothing was printed, and the fault is to be told
 pub undone : (old new : World) (r : Request) (fault : Fault) → HasStopped old new r fault → IsUndone old new r (ByFault fault)
@@ -203,7 +202,7 @@ output_then old mid new (Some output) (Some bytes) files created h = (subst (λ 
 
 asked_then : (old mid new : World) (r : Request) → new.created ≡ mid.created → MayHaveCreated old mid r → MayHaveCreated old new r
 asked_then old mid new r created (inl same) = inl (created ∙ same)
-asked_then old mid new r created (inr more) = inr (created ∙ more.0, more.1)
+asked_then old mid new r created (inr ((output, is, asked), may)) = inr ((output, is, created ∙ asked), may)
 
 pub made_then : (old mid new : World) (r : Request) (o : Option (List ℕ)) → new.files ≡ mid.files → new.created ≡ mid.created → IsMade old mid r o → IsMade old new r o
 made_then old mid new r (Some bytes) files created h = output_then old mid new (output_of r) (Some bytes) files created h
@@ -238,5 +237,5 @@ done_then old mid new r d made keeps printed = record {
 pub unprinted_then : (old mid new : World) (r : Request) (d : Done) → HasMade old mid r d → KeepsFiles mid new → new.failed ≡ true → IsUnprinted old new r
 unprinted_then old mid new r d made keeps failed = record {
   failed = failed;
-  done = inr (inl (made.outcome, makes_then old mid new r made.outcome keeps made.makes));
+  done = inl (made.outcome, makes_then old mid new r made.outcome keeps made.makes);
 }

@@ -1,5 +1,5 @@
 -- What each command gives of what it reads.
-use Rattle.std.specs.Prelude.{◌≡◌, ◌⊎◌, ◌<◌, ℕ, Bool, true, false, List, []}
+use Rattle.std.specs.Prelude.{◌≡◌, ◌⊎◌, ◌<◌, ◌≤◌, ℕ, Bool, true, false, List, []}
 use Rattle.std.specs.Prelude.{◌∷◌, ◌++◌, Option, Some, None, IsSome, IfSome, length, map}
 use Rattle.std.specs.Prelude.{option_map, codes, Ok, Err, ⊤}
 use Rattle.std.specs.Borrow.{Bor}
@@ -33,14 +33,15 @@ use Rattle.encoder.specs.Sending.{most_symbol_bytes, CanBeSent, IsSessionOf, pai
 use Rattle.encoder.specs.Certified.{CertifiesSent}
 use Rattle.encoder.specs.declared.sending.SendFault.TheVariants.{SymbolTooLong, Io as SendIo}
 use Rattle.request.specs.declared.requests.Sizes.{Sizes}
-use Rattle.request.specs.declared.requests.Output.{Output}
 use Rattle.request.specs.declared.requests.Sending.{Sending}
+use Rattle.request.specs.declared.requests.CheckRequest.{CheckRequest}
 use Rattle.request.specs.declared.requests.ShowRequest.{ShowRequest}
 use Rattle.request.specs.declared.requests.Request.{Request}
 use Rattle.request.specs.declared.requests.Request.TheVariants.{Check, Twin, Show, Encode, Certify}
 use Rattle.request.specs.declared.requests.Request.TheVariants.{Convert, Decode, Follow, Drop}
 use Rattle.request.specs.declared.requests.Request.TheVariants.{Salvage, Join}
-use Rattle.host.specs.World.{World, Holds, MayFail}
+pub use Rattle.request.specs.Outputs.{output_of}
+use Rattle.host.specs.World.{World, Holds, MayFail, Reading as ReadingFile}
 use Rattle.commands.specs.Inputs.{Input, AnObject, ASession, ACertificate, AStream, APlaces, Value}
 use Rattle.commands.specs.Inputs.{Bytes, Datagrams, Polynomials, Opened, Places}
 use Rattle.commands.specs.Inputs.{AreThere, HasValue, HaveValues, IsUnread}
@@ -76,21 +77,7 @@ inputs_of (Drop r) = place_inputs r.places_file ++ ASession r.session.now ∷ []
 inputs_of (Salvage r) = AStream r.session.now ∷ []
 inputs_of (Join r) = map (λ session. ASession session.now) r.sessions.items
 
--- its output, where it has one, and the fault that tells that writing has failed
-abbrev pub output_of : Request → Option Output
-output_of (Check r) =
-    option_map (λ name. record { name = name; no_clobber = r.no_clobber }) r.picture
-output_of (Twin r) = Some r.output
-output_of (Show r) = None
-output_of (Encode r) = Some r.output
-output_of (Certify r) = Some r.output
-output_of (Convert r) = Some r.output
-output_of (Decode r) = Some r.output
-output_of (Follow r) = Some r.output
-output_of (Drop r) = Some r.output
-output_of (Salvage r) = Some r.output
-output_of (Join r) = Some r.output
-
+-- the fault that tells that writing its output has failed
 abbrev pub IsWriteFault : Request → Fault → Type 0
 IsWriteFault (Encode r) fault = fault ≡ Send SendIo
 IsWriteFault (Certify r) fault = fault ≡ NoCertificate CertificateIo
@@ -117,9 +104,12 @@ abbrev pub IsOutcome : List ℕ → ℕ → Option (List ℕ) → Outcome → Ty
 IsOutcome text status output outcome =
     (outcome.text ≡ text) × (outcome.status ≡ status) × (outcome.output ≡ output)
 
-abbrev pub status_of : Verdict → ℕ
-status_of (Yes report) = 0
-status_of (No reason) = 1
+-- 1 of a no; 0 of a yes, or 3 if fewer datagrams or neighbours may be missed than are asked for
+abbrev pub IsCheckStatus : CheckRequest → Verdict → ℕ → Type 0
+IsCheckStatus r (No reason) status = status ≡ 1
+IsCheckStatus r (Yes report) status =
+    ((r.margin ≤ report.margin) × (r.burst ≤ report.burst) × (status ≡ 0))
+    ⊎ (((report.margin < r.margin) ⊎ (report.burst < r.burst)) × (status ≡ 3))
 
 -- the lines of a verdict, or the summary of a yes, where one is asked for
 abbrev pub TellsVerdict : Bool → Verdict → List ℕ → Type 0
@@ -220,12 +210,12 @@ Gives (Check r) (Opened opened ∷ Bytes object ∷ Polynomials z ∷ []) outcom
     (verdict : Verdict) × (left : Option (List ℕ))
     × IsCheckedFrom r.identity opened left object z verdict
     × TellsVerdict r.summary verdict outcome.text
-    × (outcome.status ≡ status_of verdict) × IsDrawn r.picture verdict outcome.output
+    × IsCheckStatus r verdict outcome.status × IsDrawn r.picture verdict outcome.output
 Gives (Check r) (Opened session ∷ Opened object ∷ Opened certificate ∷ []) outcome =
     (verdict : Verdict) × (datagrams : List (List ℕ)) × (f : Fti) × IsValidFti f
     × OnYes verdict (IsReport r.identity datagrams f)
     × TellsVerdict r.summary verdict outcome.text
-    × (outcome.status ≡ status_of verdict) × IsDrawn r.picture verdict outcome.output
+    × IsCheckStatus r verdict outcome.status × IsDrawn r.picture verdict outcome.output
 Gives (Twin r) (Datagrams datagrams ∷ Bytes object ∷ Polynomials z ∷ []) outcome =
     (verdict : Verdict) × IsVerdict r.identity datagrams object z verdict
     × GivesTwin (λ block other. IsTwinOfSession r.identity z.fti block datagrams object other)
@@ -286,22 +276,26 @@ IsCutBehindLines world r text fault = ⊥
 -- Why nothing does, though the inputs are there, and what was printed before: a frame can't be read
 -- behind others, or a session isn't as it was; an object's length makes no FTI, or its symbols are
 -- too long; a certificate is another's; a session hasn't a place. Before a fault of a session that
--- is shown nothing is printed, or, where the host may fail, the lines of the datagrams before it.
+-- is shown nothing is printed, or, if reading it is refused, the lines of the datagrams before it.
 abbrev pub Refuses : World → Request → List ℕ → Fault → Type 0
-Refuses world (Check r) text (Frame fault) = (fault ≡ FrameIo → MayFail world)
+Refuses world (Check r) text (Frame fault) =
+    (fault ≡ FrameIo → MayFail world (ReadingFile r.session.now))
     × (((world.files ≡ None) × (failed : Bool) × IsReadFault fault None None failed)
     ⊎ ((opened : Option (List ℕ)) × (object : List ℕ) × (z : Certificate)
     × (left : Option (List ℕ)) × (failed : Bool)
     × HaveValues world.files (inputs_of (Check r))
     (Opened opened ∷ Bytes object ∷ Polynomials z ∷ [])
     × IsRefusedBehind r.identity fault opened left failed object z))
-Refuses world (Check r) text (File session) = (session.now ≡ r.session.now) × MayFail world
+Refuses world (Check r) text (File session) =
+    (session.now ≡ r.session.now) × MayFail world (ReadingFile r.session.now)
 Refuses world (Show r) text fault =
     IsUnread world (ASession r.session.now) fault
-    × ((text ≡ []) ⊎ (MayFail world × IsCutBehindLines world r text fault))
+    × ((text ≡ [])
+    ⊎ (MayFail world (ReadingFile r.session.now) × IsCutBehindLines world r text fault))
 Refuses world (Follow r) text (Frame fault) =
     (left : Option (List ℕ)) × (new : Option (List ℕ)) × (failed : Bool)
-    × IsReadFault fault left new failed × (fault ≡ FrameIo → MayFail world)
+    × IsReadFault fault left new failed
+    × (fault ≡ FrameIo → MayFail world (ReadingFile r.session.now))
     × Holds world.files r.session.now (λ bytes. (read : ℕ) × (taken : List (List ℕ))
     × IsHeard r.identity (Some bytes) left read taken text)
 Refuses world (Encode r) text (NoFti fault) =
@@ -318,5 +312,5 @@ Refuses world (Drop r) text (Frame (NoSuchPlace place)) =
     (values : List Value) × HaveValues world.files (inputs_of (Drop r)) values
     × IsUnhadPlace r.places.items values place
 Refuses world (Salvage r) text (Frame FrameIo) =
-    AreThere world.files (inputs_of (Salvage r)) × MayFail world
+    AreThere world.files (inputs_of (Salvage r)) × MayFail world (ReadingFile r.session.now)
 Refuses world r text fault = ⊥

@@ -1,8 +1,8 @@
 -- What a command has done, before it is told.
-use Rattle.std.specs.Prelude.{◌≡◌, ◌⊎◌, ℕ, List, [], Result, Ok, Err}
+use Rattle.std.specs.Prelude.{◌≡◌, ◌⊎◌, ℕ, Bool, List, [], Result, Ok, Err}
 use Rattle.request.specs.declared.requests.Output.{Output}
 use Rattle.request.specs.declared.requests.Request.{Request}
-use Rattle.host.specs.World.{World, IsToStay, MayFail, one_more}
+use Rattle.host.specs.World.{World, IsToStay, MayFail, Creating, Writing, one_more}
 use Rattle.commands.specs.Lines.{count_line}
 use Rattle.commands.specs.Commands.{Outcome}
 use Rattle.commands.specs.Outcomes.{Makes, IsStopped, IsUnprinted}
@@ -44,28 +44,32 @@ IsUndone old new r Unprinted = IsUnprinted old new r
 -- why an output isn't created
 abbrev pub IsUncreated : World → Output → Fault → Type 0
 IsUncreated world output (Open name) = (name.now ≡ output.name.now)
-    × (MayFail world ⊎ IsToStay world.files output.name.now output.no_clobber)
+    × (MayFail world (Creating output.name.now)
+    ⊎ IsToStay world.files output.name.now output.no_clobber)
 IsUncreated world output fault = ⊥
 
 -- writing or keeping it has failed, which this fault tells, or there is no memory
-abbrev pub IsUnwritten : World → Fault → Fault → Type 0
-IsUnwritten world failure told = (told ≡ Memory) ⊎ ((told ≡ failure) × MayFail world)
+abbrev pub IsUnwritten : World → Output → Fault → Fault → Type 0
+IsUnwritten world output failure told =
+    (told ≡ Memory) ⊎ ((told ≡ failure) × MayFail world (Writing output.name.now))
 
 -- Why what was to be written isn't kept: for the fault of what was written; or as writing or
 -- keeping has failed; or, where all was written, as the output isn't created.
 abbrev pub IsUncommitted : World → Output → Result ℕ Unwritten → Fault → Fault → Type 0
 IsUncommitted world output (Ok count) failure told =
-    IsUncreated world output told ⊎ IsUnwritten world failure told
+    IsUncreated world output told ⊎ IsUnwritten world output failure told
 IsUncommitted world output (Err (unwritten.Fault fault)) failure told = told ≡ fault
-IsUncommitted world output (Err unwritten.Writing) failure told = IsUnwritten world failure told
+IsUncommitted world output (Err unwritten.Writing) failure told =
+    IsUnwritten world output failure told
 
 -- why a file wasn't made of some bytes, and how many outputs were asked for
 abbrev pub IsUnkept : World → World → Output → Fault → Fault → Type 0
 IsUnkept old new output failure told =
     ((told ≡ Memory) × (new.created ≡ old.created))
-    ⊎ (IsUncommitted old output (Ok 0) failure told × (new.created ≡ one_more old.created))
+    ⊎ (IsUncommitted old output (Ok 0) failure told
+    × (new.created ≡ one_more output.name.now output.no_clobber old.created))
 
 -- what was read for it has changed
-abbrev pub IsUnwrittenAgain : World → List ℕ → Unwritten → Type 0
-IsUnwrittenAgain world name (unwritten.Fault fault) = HasChanged world name fault
-IsUnwrittenAgain world name unwritten.Writing = ⊥
+abbrev pub IsUnwrittenAgain : Bool → List ℕ → Unwritten → Type 0
+IsUnwrittenAgain reliable name (unwritten.Fault fault) = HasChanged reliable name fault
+IsUnwrittenAgain reliable name unwritten.Writing = ⊥

@@ -10,7 +10,7 @@ use Rattle.certificate.specs.declared.certificate.CertFault.TheVariants.{NoMemor
 use Rattle.certificate.specs.declared.certificate.CertFault.TheVariants.{OtherIdentity}
 use Rattle.session.specs.declared.range.PlaceRange.{PlaceRange}
 use Rattle.request.specs.Places.{AreRanges, IsFirstWrong, words_of}
-use Rattle.host.specs.World.{Files, World, Holds, MayFail}
+use Rattle.host.specs.World.{Files, World, Holds, MayFail, Opening, Reading}
 use Rattle.commands.specs.declared.fault.Fault.{Fault}
 use Rattle.commands.specs.declared.fault.Fault.TheVariants.{Open, File, Memory, Frame, NoPlace}
 use Rattle.commands.specs.declared.fault.Fault.TheVariants.{Certificate as NoCertificate}
@@ -68,29 +68,29 @@ abbrev pub AreThere : Option Files → List Input → Type 0
 AreThere files [] = ⊤
 AreThere files (input ∷ inputs) = Holds files (name_of input) (λ bytes. ⊤) × AreThere files inputs
 
--- why a file doesn't open: it isn't there, or the host may fail, or there is no memory
+-- why a file doesn't open: it isn't there, or opening is refused, or there is no memory
 abbrev pub IsUnopened : World → List ℕ → Fault → Type 0
 IsUnopened world name (Open opened) =
-    (opened.now ≡ name) × (MayFail world ⊎ IfSome world.files (λ held. held name ≡ None))
+    (opened.now ≡ name)
+    × (MayFail world (Opening name) ⊎ IfSome world.files (λ held. held name ≡ None))
 IsUnopened world name Memory = ⊤
 IsUnopened world name fault = ⊥
 
--- why one gives no value: it doesn't open, or its bytes give none, or reading has failed, where the
--- host may fail
+-- why one gives no value: it doesn't open, or its bytes give none, or reading it is refused
 abbrev pub IsUnread : World → Input → Fault → Type 0
-IsUnread world (AnObject name) (File read) = (read.now ≡ name) × (MayFail world)
-IsUnread world (ASession name) (File read) = (read.now ≡ name) × (MayFail world)
-IsUnread world (ASession name) (Frame FrameIo) = MayFail world
+IsUnread world (AnObject name) (File read) = (read.now ≡ name) × MayFail world (Reading name)
+IsUnread world (ASession name) (File read) = (read.now ≡ name) × MayFail world (Reading name)
+IsUnread world (ASession name) (Frame FrameIo) = MayFail world (Reading name)
 IsUnread world (ASession name) (Frame NoFrameMemory) = ⊤
 IsUnread world (ASession name) (Frame (NoSuchPlace place)) = ⊥
 IsUnread world (ASession name) (Frame fault) = Holds world.files name (StopsAt fault)
-IsUnread world (ACertificate name) (File read) = (read.now ≡ name) × (MayFail world)
-IsUnread world (ACertificate name) (NoCertificate CertificateIo) = MayFail world
+IsUnread world (ACertificate name) (File read) = (read.now ≡ name) × MayFail world (Reading name)
+IsUnread world (ACertificate name) (NoCertificate CertificateIo) = MayFail world (Reading name)
 IsUnread world (ACertificate name) (NoCertificate NoCertMemory) = ⊤
 IsUnread world (ACertificate name) (NoCertificate OtherIdentity) = ⊥
 IsUnread world (ACertificate name) (NoCertificate fault) =
     Holds world.files name (λ bytes. text_fault bytes ≡ Some fault)
-IsUnread world (APlaces name) (File read) = (read.now ≡ name) × (MayFail world)
+IsUnread world (APlaces name) (File read) = (read.now ≡ name) × MayFail world (Reading name)
 IsUnread world (APlaces name) (NoPlace count) =
     Holds world.files name (λ bytes. (word : List ℕ) × IsFirstWrong (words_of bytes) count word)
 IsUnread world input fault = IsUnopened world (name_of input) fault

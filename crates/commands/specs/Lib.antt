@@ -2,6 +2,7 @@ pub mod Words
 pub mod Lines
 pub mod Inputs
 pub mod ReadingInputs
+pub mod Wholes
 pub mod Following
 pub mod Summary
 pub mod Totals

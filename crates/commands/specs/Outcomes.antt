@@ -12,7 +12,8 @@ use Rattle.request.specs.declared.requests.Output.{Output}
 use Rattle.request.specs.declared.requests.Request.{Request}
 use Rattle.request.specs.declared.requests.Request.TheVariants.{Check, Twin, Show, Decode, Follow}
 use Rattle.request.specs.declared.requests.Request.TheVariants.{Drop, Join}
-use Rattle.host.specs.World.{Files, World, Holds, IsFree, IsToStay, MayFail, Replaces, one_more}
+use Rattle.host.specs.World.{Files, World, Holds, IsFree, IsToStay, MayFail, Creating, Writing}
+use Rattle.host.specs.World.{Replaces, one_more}
 use Rattle.commands.specs.Inputs.{AStream, Value, Opened, HasValue, HaveValues, AreThere}
 use Rattle.commands.specs.Inputs.{IsUnopened}
 use Rattle.commands.specs.Inputs.{IsFirstUnread}
@@ -23,11 +24,16 @@ use Rattle.commands.specs.Commands.{AreReadAs, Gives, told_before, Refuses}
 use Rattle.commands.specs.declared.fault.Fault.{Fault}
 use Rattle.commands.specs.declared.fault.Fault.TheVariants.{Open, Memory}
 
--- the output's bytes stand under its name, and one output was asked for; or there is none, and
--- nothing has changed
+-- just this output was asked for
+abbrev pub HasAsked : World → World → Output → Type 0
+HasAsked old new output =
+    new.created ≡ one_more output.name.now output.no_clobber old.created
+
+-- the output's bytes stand under its name, and just it was asked for; or there is none, and nothing
+-- has changed
 abbrev pub IsOutput : World → World → Option Output → Option (List ℕ) → Type 0
 IsOutput old new (Some output) (Some bytes) =
-    Replaces old.files new.files output.name.now bytes × (new.created ≡ one_more old.created)
+    Replaces old.files new.files output.name.now bytes × HasAsked old new output
     × IsFree old.files output.name.now output.no_clobber
 IsOutput old new None (Some bytes) = ⊥
 IsOutput old new name None = (new.files ≡ old.files) × (new.created ≡ old.created)
@@ -61,10 +67,11 @@ MayCreate files (Drop r) = Holds files r.session.now (λ bytes. ⊤)
 MayCreate files (Join r) = AreThere files (take 1 (inputs_of (Join r)))
 MayCreate files r = AreThere files (inputs_of r)
 
--- none was asked for, or one, as it may be
+-- none was asked for, or the request's own, as it may be
 abbrev pub MayHaveCreated : World → World → Request → Type 0
 MayHaveCreated old new r = (new.created ≡ old.created)
-    ⊎ ((new.created ≡ one_more old.created) × MayCreate old.files r)
+    ⊎ (((output : Output) × (output_of r ≡ Some output) × HasAsked old new output)
+    × MayCreate old.files r)
 
 -- What was made of an output's bytes. An object is written while its symbols come or are looked at:
 -- where they turn out to be too few or of none, its output may have been asked for, and is given
@@ -102,14 +109,17 @@ IsUnhad world (Drop r) fault =
 IsUnhad world (Show r) fault = ⊥
 IsUnhad world r fault = IsFirstUnread world (inputs_of r) fault
 
--- The output can't be created, as a file is there that is to stay, or the host may fail: that is
--- told only where the inputs give its bytes. Or writing it has failed, where the host may fail.
+-- The output can't be created, as a file is there that is to stay, or creating it is refused: that
+-- is told only if the inputs give its bytes. Or writing it is refused.
 abbrev pub IsUnmade : World → World → Request → Fault → Type 0
 IsUnmade old new r (Open name) =
     (output : Output) × (output_of r ≡ Some output) × (name.now ≡ output.name.now)
-    × (MayFail old ⊎ IsToStay old.files output.name.now output.no_clobber)
-    × GivesOutput old.files r × (new.created ≡ one_more old.created)
-IsUnmade old new r fault = MayFail old × IsWriteFault r fault × (new.created ≡ one_more old.created)
+    × (MayFail old (Creating output.name.now)
+    ⊎ IsToStay old.files output.name.now output.no_clobber)
+    × GivesOutput old.files r × HasAsked old new output
+IsUnmade old new r fault =
+    (output : Output) × (output_of r ≡ Some output) × MayFail old (Writing output.name.now)
+    × IsWriteFault r fault × HasAsked old new output
 
 -- Why the request wasn't done, by what was printed before: an input can't be had; or the request is
 -- refused; or its output isn't made; or there is no memory.
@@ -138,17 +148,18 @@ pub record IsStopped (old new : World) (r : Request) (text : List ℕ) (fault : 
   pub files : new.files ≡ old.files
   pub created : MayHaveCreated old new r
 
--- an object isn't there, though the output for what was received was asked for
-abbrev pub IsGivenUp : World → World → Request → Type 0
-IsGivenUp old new (Follow r) = (new.files ≡ old.files) × MayHaveCreated old new (Follow r)
-IsGivenUp old new r = ⊥
+-- what stays untold once printing has failed: more of a session that is shown; a fault of one that
+-- is followed, behind this text
+abbrev pub LeavesUntold : World → World → Request → Type 0
+LeavesUntold old new (Show r) = (new.files ≡ old.files) × (new.created ≡ old.created)
+LeavesUntold old new (Follow r) =
+    (text : List ℕ) × (fault : Fault) × IsStopped old new (Follow r) text fault
+LeavesUntold old new r = ⊥
 
--- Printing has failed: nothing was done, or all but what is printed; or an output was asked for,
--- for what was received, and no object is there, which can't be told.
+-- Printing has failed: all was done but what is printed, or the rest stays untold.
 pub record IsUnprinted (old new : World) (r : Request) : Type 0 where
   pub failed : new.failed ≡ true
-  pub done : ((new.files ≡ old.files) × (new.created ≡ old.created))
-      ⊎ ((outcome : Outcome) × Makes old new r outcome) ⊎ IsGivenUp old new r
+  pub done : ((outcome : Outcome) × Makes old new r outcome) ⊎ LeavesUntold old new r
 
 -- The request wasn't done, and behind what was printed before, the fault was told.
 pub record HasFault (old new : World) (r : Request) : Type 0 where

@@ -4,7 +4,6 @@ use Rattle.partition.specs.Fti.{Fti}
 use Rattle.session.specs.Frames.{IsReadFault, StopsAt}
 use Rattle.session.specs.declared.frame.FrameFault.TheVariants.{Io as FrameIo, NoSuchPlace}
 use Rattle.session.specs.declared.frame.FrameFault.TheVariants.{NoMemory as NoFrameMemory}
-use Rattle.host.specs.World.{World, MayFail}
 use Rattle.commands.specs.declared.fault.Fault.{Fault}
 use Rattle.commands.specs.declared.fault.Fault.TheVariants.{File, Frame, Memory}
 
@@ -38,7 +37,7 @@ IsUnframed content reliable (Frame fault) = IfSome content (StopsAt fault)
 IsUnframed content reliable Memory = ⊤
 IsUnframed content reliable fault = ⊥
 
--- the file of this name isn't as it was when it was opened, as is so only where the host may fail
-abbrev pub HasChanged : World → List ℕ → Fault → Type 0
-HasChanged world name (File read) = (read.now ≡ name) × (MayFail world)
-HasChanged world name fault = ⊥
+-- the file of this name isn't as it was when it was opened, as is so only if it isn't reliable
+abbrev pub HasChanged : Bool → List ℕ → Fault → Type 0
+HasChanged reliable name (File read) = (read.now ≡ name) × (reliable ≡ false)
+HasChanged reliable name fault = ⊥

@@ -21,11 +21,16 @@ pub enum Told {
 pub enum Why {
     /// Its lines and its status say all.
     Plain,
-    /// Yes, where so many datagrams are repeats of others.
+    /// Yes: so many datagrams are repeats of others, any so many may be missed, and so many
+    /// neighbours.
     Yes {
         repeats: usize,
+        margin: usize,
+        burst: usize,
     },
     No(Reason),
+    /// A session was written that has no repair symbol of some block.
+    Unprotected,
     /// Some datagrams that were shown are no packets.
     Strays,
     /// The session was kept up to a frame with this fault.
@@ -50,6 +55,8 @@ impl From<&Verdict> for Why {
         match verdict {
             Verdict::Yes(report) => Why::Yes {
                 repeats: report.repeats,
+                margin: report.margin,
+                burst: report.burst,
             },
             Verdict::No(reason) => Why::No(*reason),
         }

@@ -3,9 +3,8 @@ ghost use Rattle.std.specs.Prelude.{◌≡◌, ◌<◌, ◌≤◌, [], None, fal
 ghost use Rattle.std.specs.Io.KnownBytes.{Consumes, IsAtEnd};
 ghost use Rattle.session.specs.Frames.{frame, most_bytes};
 ghost use Rattle.host.specs.World.{GivesFile};
-ghost use Rattle.commands.specs.Inputs.{AnObject, ASession, ACertificate, APlaces, Bytes};
-ghost use Rattle.commands.specs.Inputs.{Datagrams};
-ghost use Rattle.commands.specs.Inputs.{Polynomials, Places, HasValue, IsUnopened, IsUnread};
+ghost use Rattle.commands.specs.Inputs.{AnObject, ACertificate, APlaces, Bytes, Polynomials};
+ghost use Rattle.commands.specs.Inputs.{Places, HasValue, IsUnopened, IsUnread};
 ghost use Rattle.commands.specs.ReadingInputs.{HasChanged, IsFrameUnread, IsRestUnread};
 ghost use Rattle.commands.specs.declared.fault.Fault.TheVariants.{Frame};
 
@@ -13,7 +12,7 @@ use crate::fault::Fault;
 use certificate::Certificate;
 use host::{FileFault, Host};
 use request::{PlaceFault, place_ranges};
-use session::{FrameFault, PlaceRange, Read, ReadFault, Session, read_next, read_to_end};
+use session::{FrameFault, PlaceRange, Read, ReadFault, read_next, read_to_end};
 use std::alloc::Global;
 
 /// A file to be read.
@@ -37,29 +36,13 @@ pub fn see_unchanged<'a, H: Host>(
     name: &'a str,
     input: &H::Input,
 ) -> Result<(), Fault<'a>>
-    ensures { IfErr result (HasChanged (H.world host.now) name.now) }
+    ensures { IfErr result (HasChanged (H.Input.reliable input.now) name.now) }
 {
     if host.is_unchanged(input) {
         Ok(())
     } else {
         Err(Fault::File(name))
     }
-}
-
-/// The session that an input gives, which was opened under this name.
-pub fn session_in<'a, H: Host>(
-    alloc: Global,
-    host: &H,
-    name: &'a str,
-    input: &mut H::Input,
-) -> Result<Session, Fault<'a>>
-    requires { GivesFile (H.world host.now) name.now
-        (H.Input.remaining input.old) (H.Input.sound input.old) }
-    ensures ok { IfOk result (λ session.
-        HasValue (H.world host.now).files (ASession name.now) (Datagrams session)) }
-    ensures fault { IfErr result (IsUnread (H.world host.now) (ASession name.now)) }
-{
-    Ok(Session::read(alloc, input)?)
 }
 
 /// The next datagram of a session, or `None` at the end.
@@ -102,8 +85,8 @@ pub fn read_certificate<'a, H: Host>(
     certificate_in(alloc, host, name, &mut input)
 }
 
-/// The certificate that an input gives, which was opened under this name.
-pub fn certificate_in<'a, H: Host>(
+// The certificate that an input gives, which was opened under this name.
+fn certificate_in<'a, H: Host>(
     alloc: Global,
     host: &H,
     name: &'a str,
@@ -132,8 +115,8 @@ pub fn read_object<'a, H: Host>(
     object_in(alloc, host, name, &mut input)
 }
 
-/// The bytes that an input gives, which was opened under this name.
-pub fn object_in<'a, H: Host>(
+// The bytes that an input gives, which was opened under this name.
+fn object_in<'a, H: Host>(
     alloc: Global,
     host: &H,
     name: &'a str,

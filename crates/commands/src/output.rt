@@ -2,9 +2,10 @@
 ghost use Rattle.std.specs.Prelude.{◌≡◌, ◌⊎◌, Ok, Err, IfOk, IfErr, IfSome, OnOk, OnErr};
 ghost use Rattle.host.specs.World.{IsFree, Replaces, IsSilent, one_more};
 ghost use Rattle.commands.specs.Doing.{IsUncommitted, IsUnkept, IsUnwrittenAgain};
+ghost use Rattle.commands.specs.Wholes.{reliable_of};
 
 use crate::fault::Fault;
-use crate::input::see_unchanged;
+use crate::whole::{Whole, see_whole};
 use host::{FileFault, Host, KeepFault};
 use request::Output;
 use session::write_all;
@@ -18,25 +19,22 @@ pub enum Unwritten<'a> {
     Fault(Fault<'a>),
 }
 
-/// What was written of a file that was opened under this name, if there is one, and is as it was
-/// then.
+/// What was written of what was opened under this name, if that is as it was then.
 pub fn if_unchanged<'a, T: Drop, H: Host>(
     host: &H,
     name: &'a str,
-    source: Option<&H::Input>,
+    source: &Whole<H::Input>,
     written: Result<T, Unwritten<'a>>,
 ) -> Result<T, Unwritten<'a>>
     ensures ok { OnOk result (result ≡ written.entry) }
     ensures fault { IfErr result (λ e. (written.entry ≡ Err e)
-        ⊎ IsUnwrittenAgain (H.world host.now) name.now e) }
+        ⊎ IsUnwrittenAgain (reliable_of H.Input.reliable source.now) name.now e) }
 {
     let written = written?;
-    if let Some(input) = source {
-        if let Err(fault) = see_unchanged(host, name, input) {
-            return Err(Unwritten::Fault(fault));
-        }
+    match see_whole(host, name, source) {
+        Ok(()) => Ok(written),
+        Err(fault) => Err(Unwritten::Fault(fault)),
     }
-    Ok(written)
 }
 
 /// Keeps what was written under its output's name, or gives it up where it wasn't written to its
@@ -68,10 +66,10 @@ pub fn commit<'a, H: Host>(
             Err(KeepFault::NoMemory) => Err(Fault::Memory),
         },
         Err(Unwritten::Fault(fault)) => {
-            host.give_up(file);
+            host.give_up(output.name, file);
             Err(fault)
         }
-        Err(Unwritten::Writing) => match host.give_up(file) {
+        Err(Unwritten::Writing) => match host.give_up(output.name, file) {
             FileFault::Io => Err(failure),
             FileFault::NoMemory => Err(Fault::Memory),
         },
@@ -94,7 +92,8 @@ pub fn write_output<'a, H: Host>(
     ensures files { OnErr result ((H.world host.new).files ≡ (H.world host.old).files) }
     ensures silent { IsSilent (H.world host.old) (H.world host.new) }
     ensures created { OnOk result
-        ((H.world host.new).created ≡ one_more (H.world host.old).created) }
+        ((H.world host.new).created
+            ≡ one_more output.now.name.now output.now.no_clobber (H.world host.old).created) }
 {
     let mut file = host.create_file(output.name, output.no_clobber)?;
     let written = match write_all(&mut file, bytes) {

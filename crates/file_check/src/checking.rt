@@ -336,6 +336,13 @@ pub struct Checked {
 impl Checked {
     ghost use Rattle.file_check.specs.Answers.{HasChecked, HasCheckedSome};
 
+    /// The FTI of the certificate.
+    pub fn fti(&self) -> Fti
+        ensures { result ≡ self.now.fti }
+    {
+        self.fti
+    }
+
     /// The verdict, which is that of [`cert::check_from`]. Want of memory is the only error.
     pub fn verdict(&self, alloc: Global) -> Result<Verdict, AllocError>
         requires { (who : IdentityValue) × HasCheckedSome who self.now }

@@ -1,8 +1,8 @@
 //! What a command meets outside.
 ghost use Rattle.std.specs.Prelude.{◌≡◌, [], None, true, false, IfOk, IfErr, IfSome, OnOk, OnErr};
-ghost use Rattle.std.specs.Io.KnownBytes.{Appends};
+ghost use Rattle.std.specs.Io.KnownBytes.{Appends, Keeps};
 ghost use Rattle.host.specs.World.{World, GivesFile, LeavesBytes, IsBlank, Replaces, IsRefused};
-ghost use Rattle.host.specs.World.{IsMissing, IsFree, IsKeepFault, KeepsFiles, IsSilent, MayFail};
+ghost use Rattle.host.specs.World.{IsMissing, IsFree, IsKeepFault, KeepsFiles, IsSilent};
 ghost use Rattle.host.specs.World.{one_more};
 
 use session::{Failed, Read};
@@ -39,7 +39,7 @@ pub trait Host {
     /// What is outside, as far as it is told.
     ghost world: { Self → World };
 
-    /// Opens a file for reading. `Io` comes only where the file isn't there, or the host may fail.
+    /// Opens a file for reading. `Io` comes only if the file isn't there, or opening it is refused.
     fn open_file(&self, name: &str) -> Result<Self::Input, FileFault>
         ensures input { IfOk result (λ file. GivesFile (world self.now) name.now
             (Self.Input.remaining file) (Self.Input.sound file)) }
@@ -53,14 +53,14 @@ pub trait Host {
         ensures length { IfSome result (LeavesBytes (Self.Input.remaining input.now)) }
         ensures none { result ≡ None → (world self.now).files ≡ None };
 
-    /// Whether the file of an input is as it was when it was opened, as far as that can be seen.
-    /// `false` comes only where the host may fail.
+    /// Whether the file of an input is as it was when it was opened, as far as that can be seen. It
+    /// is, unless reading it may fail.
     fn is_unchanged(&self, input: &Self::Input) -> bool
-        ensures { result ≡ false → MayFail (world self.now) };
+        ensures { result ≡ false → Self.Input.reliable input.now ≡ false };
 
-    /// Begins what is to be the file of this name. With `no_clobber` it may be one only where none
-    /// is there. Where it can't be created, what is written goes nowhere, and `keep_file` tells.
-    /// So whatever else is wrong is found first.
+    /// Begins what is to be the file of this name. With `no_clobber` it may be one only if none is
+    /// there. If it can't be created, what is written goes nowhere, and `keep_file` tells. So
+    /// whatever else is wrong is found first.
     fn create_file(&mut self, name: &str, no_clobber: bool) -> Result<Self::Output, AllocError>
         ensures blank { IfOk result (λ file.
             IsBlank (world self.old) (Self.Output.contents file)) }
@@ -69,12 +69,13 @@ pub trait Host {
         ensures files { (world self.new).files ≡ (world self.old).files }
         ensures silent { IsSilent (world self.old) (world self.new) }
         ensures created { OnOk result
-            ((world self.new).created ≡ one_more (world self.old).created) }
+            ((world self.new).created
+                ≡ one_more name.now no_clobber (world self.old).created) }
         ensures none { OnErr result ((world self.new).created ≡ (world self.old).created) };
 
     /// Puts what was written under its name, in the place of the file that was there. `Uncreated`
-    /// comes only where a file is there that stays, or the host may fail, and `Io` only where it
-    /// may; after a fault the files are as they were.
+    /// comes only if a file is there that stays, or creating it is refused, and `Io` only if writing
+    /// it is; after a fault the files are as they were.
     fn keep_file(
         &mut self,
         name: &str,
@@ -89,9 +90,9 @@ pub trait Host {
         ensures silent { IsSilent (world self.old) (world self.new) }
         ensures created { (world self.new).created ≡ (world self.old).created };
 
-    /// Drops what was written, and answers why writing has failed, where it has.
-    fn give_up(&mut self, output: Self::Output) -> FileFault
-        ensures fault { IsRefused (world self.old) result }
+    /// Drops what was written for this name, and answers why writing has failed, if it has.
+    fn give_up(&mut self, name: &str, output: Self::Output) -> FileFault
+        ensures fault { IsRefused (world self.old) name.now result }
         ensures files { KeepsFiles (world self.old) (world self.new) }
         ensures silent { IsSilent (world self.old) (world self.new) };
 
@@ -104,7 +105,7 @@ pub trait Host {
 
     /// Passes on what was printed and is held back.
     fn pass_on(&mut self) -> Result<(), Failed>
-        ensures stays { OnOk result ((world self.new).printed ≡ (world self.old).printed) }
+        ensures stays { OnOk result (Keeps (world self.old).printed (world self.new).printed) }
         ensures fails { OnErr result ((world self.new).failed ≡ true) }
         ensures files { KeepsFiles (world self.old) (world self.new) };
 }

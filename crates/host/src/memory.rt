@@ -59,7 +59,7 @@ pub struct MemoryHost {
     files: Vec<(String, Vec<u8>)>,
     most: usize,
     out: Sink,
-    created: u64,
+    created: Vec<(String, bool)>,
     alloc: Global,
     ghost some: { 0 < most },
 }
@@ -71,13 +71,13 @@ impl MemoryHost {
         ensures files { result.files.items ≡ [] }
         ensures most { result.most ≡ most }
         ensures out { result.out ≡ out }
-        ensures created { result.created ≡ 0 }
+        ensures created { result.created.items ≡ [] }
     {
         MemoryHost {
             files: Vec::new(alloc),
             most,
             out,
-            created: 0,
+            created: Vec::new(alloc),
             alloc,
         }
     }
@@ -125,11 +125,12 @@ impl MemoryHost {
         self.out.bytes()
     }
 
-    /// How many outputs were asked for.
-    pub fn created(&self) -> u64
-        ensures { result ≡ self.now.created }
+    /// The outputs that were asked for, each by its name, and by whether a file that was there was
+    /// to stay.
+    pub fn created(&self) -> &[(String, bool)]
+        ensures { result.now ≡ self.now.created.items }
     {
-        self.created
+        self.created.as_slice()
     }
 }
 
@@ -139,7 +140,8 @@ impl Host for MemoryHost {
     type Output = Sink;
 
     ghost world = { λ host.
-        memory_world host.files.items host.out.bytes.items host.out.failed host.created };
+        memory_world host.files.items host.out.bytes.items
+        host.out.failed host.created.items };
 
     fn open_file(&self, name: &str) -> Result<MemoryInput, FileFault> {
         let Some(bytes) = self.get(name) else {
@@ -164,12 +166,12 @@ impl Host for MemoryHost {
         true
     }
 
-    fn create_file(&mut self, _name: &str, _no_clobber: bool) -> Result<Sink, AllocError> {
-        let Some(created) = self.created.checked_add(1) else {
-            return Err(AllocError);
-        };
-        self.created = created;
-        Ok(Sink::new(self.alloc))
+    fn create_file(&mut self, name: &str, no_clobber: bool) -> Result<Sink, AllocError> {
+        let asked = name.to_string(self.alloc)?;
+        match self.created.push((asked, no_clobber)) {
+            Ok(()) => Ok(Sink::new(self.alloc)),
+            Err(_) => Err(AllocError),
+        }
     }
 
     fn keep_file(&mut self, name: &str, no_clobber: bool, output: Sink) -> Result<(), KeepFault> {
@@ -182,7 +184,7 @@ impl Host for MemoryHost {
         }
     }
 
-    fn give_up(&mut self, _output: Sink) -> FileFault {
+    fn give_up(&mut self, _name: &str, _output: Sink) -> FileFault {
         FileFault::NoMemory
     }
 

@@ -1,5 +1,7 @@
 //! What a file is by its first bytes.
-use crate::names::STANDARD_INPUT;
+ghost use Rattle.std.specs.Prelude.{◌≡◌, None, codes};
+
+use crate::names::STANDARD_STREAM;
 use partition::Fti;
 use reception::Identity;
 use session::{Device, Read, fill};
@@ -23,8 +25,10 @@ const INPUT_DEVICE: &str = "/dev/stdin";
 
 /// A regular file, from its first byte on. Nothing else can be read again; nor can standard input,
 /// wherever it comes from.
-pub(crate) fn open_again<R: Files<File = File>>(rt: &R, name: &str) -> Option<File> {
-    if name == STANDARD_INPUT || name == INPUT_DEVICE {
+pub(crate) fn open_again<R: Files<File = File>>(rt: &R, name: &str) -> Option<File>
+    ensures { name.now ≡ codes "-" → result ≡ None }
+{
+    if name == STANDARD_STREAM || name == INPUT_DEVICE {
         return None;
     }
     match fs::metadata(rt, name) {
@@ -57,14 +61,18 @@ fn kind_of_front(front: &[u8]) -> Option<Kind> {
 }
 
 /// What a regular file is, by its first bytes, where these tell.
-pub fn kind_of<R: Files<File = File>>(rt: &R, name: &str) -> Option<Kind> {
+pub fn kind_of<R: Files<File = File>>(rt: &R, name: &str) -> Option<Kind>
+    ensures { name.now ≡ codes "-" → result ≡ None }
+{
     let mut front = [0u8; 16];
     let got = front_of(rt, name, &mut front)?;
     kind_of_front(front.get(..got)?)
 }
 
 // Reads the first bytes of a regular file, and answers how many there are.
-fn front_of<R: Files<File = File>>(rt: &R, name: &str, front: &mut [u8]) -> Option<usize> {
+fn front_of<R: Files<File = File>>(rt: &R, name: &str, front: &mut [u8]) -> Option<usize>
+    ensures { name.now ≡ codes "-" → result ≡ None }
+{
     let file = open_again(rt, name)?;
     fill(&mut Device::new(file), front).ok()
 }
@@ -103,7 +111,9 @@ fn head_of(front: &[u8; 34]) -> Option<Head> {
 }
 
 /// What a certificate's file begins with.
-pub fn certificate_head<R: Files<File = File>>(rt: &R, name: &str) -> Option<Head> {
+pub fn certificate_head<R: Files<File = File>>(rt: &R, name: &str) -> Option<Head>
+    ensures { name.now ≡ codes "-" → result ≡ None }
+{
     let mut front = [0u8; 34];
     front_of(rt, name, &mut front)?;
     head_of(&front)

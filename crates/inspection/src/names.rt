@@ -1,4 +1,6 @@
 //! Files' names in sentences, and why the system didn't do what it was asked for.
+ghost use Rattle.std.specs.Prelude.{◌≡◌, ◌≢◌, codes};
+
 use std::fmt;
 use std::io::ErrorKind;
 
@@ -21,17 +23,34 @@ impl fmt::Display for Name<'_> {
     }
 }
 
-/// The name of an input that is standard input.
-pub const STANDARD_INPUT: &str = "-";
+/// The name of an input that is standard input, and of an output that is standard output.
+pub const STANDARD_STREAM: &str = "-";
 
 /// An input's name as it is told.
-pub fn input_name(name: &str) -> Name<'_> {
-    Name {
-        text: if name == STANDARD_INPUT {
-            "standard input"
-        } else {
-            name
-        },
+pub fn input_name(name: &str) -> Name<'_>
+    ensures stream { name.now ≡ codes "-" → result.text.now ≡ codes "standard input" }
+    ensures file { name.now ≢ codes "-" → result.text.now ≡ name.now }
+{
+    if name == STANDARD_STREAM {
+        Name {
+            text: "standard input",
+        }
+    } else {
+        Name { text: name }
+    }
+}
+
+/// An output's name as it is told.
+pub fn output_name(name: &str) -> Name<'_>
+    ensures stream { name.now ≡ codes "-" → result.text.now ≡ codes "standard output" }
+    ensures file { name.now ≢ codes "-" → result.text.now ≡ name.now }
+{
+    if name == STANDARD_STREAM {
+        Name {
+            text: "standard output",
+        }
+    } else {
+        Name { text: name }
     }
 }
 

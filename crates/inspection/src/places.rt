@@ -1,4 +1,6 @@
 //! A word in a file of places.
+ghost use Rattle.std.specs.Prelude.{◌≡◌, None, codes};
+
 use crate::files::open_again;
 use session::{Device, read_to_end};
 use std::alloc::Global;
@@ -15,7 +17,9 @@ pub fn word_behind<R: Files<File = File>>(
     alloc: Global,
     name: &str,
     count: usize,
-) -> Option<String> {
+) -> Option<String>
+    ensures { name.now ≡ codes "-" → result ≡ None }
+{
     let file = open_again(rt, name)?;
     let text = read_to_end(alloc, &mut Device::new(file)).ok()?;
     let word = std::str::from_utf8(text.as_slice())

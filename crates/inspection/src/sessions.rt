@@ -1,4 +1,6 @@
 //! A session looked at again.
+ghost use Rattle.std.specs.Prelude.{◌≡◌, None, codes};
+
 use crate::files::open_again;
 use alc::read;
 use partition::Fti;
@@ -42,7 +44,9 @@ fn open_session<R: Files<File = File>>(
     rt: &R,
     alloc: Global,
     name: &str,
-) -> Option<Device<BufReader<File>>> {
+) -> Option<Device<BufReader<File>>>
+    ensures { name.now ≡ codes "-" → result ≡ None }
+{
     let file = open_again(rt, name)?;
     let buffered = BufReader::with_capacity(alloc, BUFFER_SIZE, file).ok()?;
     Some(Device::new(buffered))
@@ -54,7 +58,9 @@ pub fn walk<R: Files<File = File>>(
     rt: &R,
     alloc: Global,
     name: &str,
-) -> Option<(u64, Option<Break>)> {
+) -> Option<(u64, Option<Break>)>
+    ensures { name.now ≡ codes "-" → result ≡ None }
+{
     let mut reader = open_session(rt, alloc, name)?;
     let mut byte = 0u64;
     for place in 0..u64::MAX {
@@ -73,7 +79,9 @@ pub fn datagram_at<R: Files<File = File>>(
     alloc: Global,
     name: &str,
     place: usize,
-) -> Option<Vec<u8>> {
+) -> Option<Vec<u8>>
+    ensures { name.now ≡ codes "-" → result ≡ None }
+{
     let mut reader = open_session(rt, alloc, name)?;
     for _ in 0..place {
         read_next(alloc, &mut reader).ok()?;
@@ -88,7 +96,9 @@ pub fn carrier_from<R: Files<File = File>>(
     name: &str,
     identity: Identity,
     first: usize,
-) -> Option<Carrier> {
+) -> Option<Carrier>
+    ensures { name.now ≡ codes "-" → result ≡ None }
+{
     let mut reader = open_session(rt, alloc, name)?;
     for place in 0..usize::MAX {
         let Ok(Some(datagram)) = read_next(alloc, &mut reader) else {
@@ -116,7 +126,9 @@ fn symbols_of<R: Files<File = File>>(
     alloc: Global,
     name: &str,
     identity: Identity,
-) -> Option<Vec<(u32, u8)>> {
+) -> Option<Vec<(u32, u8)>>
+    ensures { name.now ≡ codes "-" → result ≡ None }
+{
     let mut reader = open_session(rt, alloc, name)?;
     let mut symbols: Vec<(u32, u8)> = Vec::new(alloc);
     for _ in 0..usize::MAX {
@@ -158,7 +170,9 @@ pub fn count_short<R: Files<File = File>>(
     name: &str,
     identity: Identity,
     fti: &Fti,
-) -> Option<Shortage> {
+) -> Option<Shortage>
+    ensures { name.now ≡ codes "-" → result ≡ None }
+{
     let symbols = symbols_of(rt, alloc, name, identity)?;
     let mut rest = symbols.as_slice();
     let blocks = fti.block_count();

@@ -1,16 +1,21 @@
 //! Outputs as they are created.
 use crate::failures::{Failures, Noted};
-use crate::output::Written;
+use crate::output::{Target, Written};
 use crate::parts::{Part, create_beside};
 use crate::program::BUFFER_SIZE;
+use crate::state::FileId;
+use inspection::{STANDARD_STREAM, output_name};
 use std::alloc::Global;
 use std::fs::{File, Metadata, OpenOptions};
 use std::io::{BufWriter, ErrorKind};
-use std::rt::Files;
+use std::rt::{Files, Stdout};
 use std::{fs, io};
 
 /// Why a file that is there already isn't created.
 const STAYS: &str = "it is there already, and stays by --no-clobber";
+
+/// Why an input isn't replaced.
+const IS_INPUT: &str = "it is an input of this command, which would be lost";
 
 // A new file beside this name, in the place of this file, if there is one.
 fn create_anew<R: Files<File = File>>(
@@ -98,6 +103,9 @@ pub(crate) struct Wanted<'a, R> {
     pub(crate) alloc: Global,
     pub(crate) name: String,
     pub(crate) no_clobber: bool,
+    /// Files that aren't replaced.
+    pub(crate) guarded: [Option<FileId>; 3],
+    pub(crate) stdout: Stdout,
     pub(crate) failures: &'a Failures,
 }
 
@@ -111,10 +119,29 @@ impl<'a, R: Files<File = File>> Wanted<'a, R> {
         created
     }
 
+    // What is written, and where it goes if not straight to this name.
+    fn target(&self) -> io::Result<(Target, Option<Part>)> {
+        let name = self.name.as_str();
+        if name == STANDARD_STREAM {
+            return Ok((Target::Stdout(self.stdout), None));
+        }
+        if self.is_guarded(name) {
+            return Err(io::Error::other(IS_INPUT));
+        }
+        let (file, part) = create(self.rt, self.alloc, name, self.no_clobber)?;
+        Ok((Target::File(file), part))
+    }
+
+    // Whether the name leads to one of the files that aren't replaced.
+    fn is_guarded(&self, name: &str) -> bool {
+        let there = FileId::of_name(self.rt, name);
+        there.is_some() && self.guarded.contains(&there)
+    }
+
     fn try_create(&self) -> io::Result<Written<'a>> {
-        let name = self.name.as_str().to_string(self.alloc)?;
-        let (file, part) = create(self.rt, self.alloc, self.name.as_str(), self.no_clobber)?;
-        let noted = Noted::new(file, name, self.failures);
+        let (target, part) = self.target()?;
+        let name = output_name(self.name.as_str()).text.to_string(self.alloc)?;
+        let noted = Noted::new(target, name, self.failures);
         match BufWriter::with_capacity(self.alloc, BUFFER_SIZE, noted) {
             Ok(writer) => Ok(Written::new(writer, part)),
             Err(error) => {

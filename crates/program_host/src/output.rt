@@ -9,14 +9,37 @@ use session::{Device, Failed, Write};
 use std::fs::File;
 use std::io::{self, BufWriter, Seek, SeekFrom};
 use std::os::unix::fs::FileExt;
-use std::rt::Files;
+use std::rt::{Files, Stdout};
 use streams::WriteAt;
 
-/// A file that is written: beside its name until it is kept, or, where a device or a pipe has that,
-/// straight.
+/// Where bytes go.
+#[derive(Drop)]
+pub(crate) enum Target {
+    File(File),
+    Stdout(Stdout),
+}
+
+impl io::Write for Target {
+    fn write(&mut self, buf: &[u8]) -> io::Result<usize> {
+        match self {
+            Target::File(file) => file.write(buf),
+            Target::Stdout(stdout) => stdout.write(buf),
+        }
+    }
+
+    fn flush(&mut self) -> io::Result<()> {
+        match self {
+            Target::File(file) => file.flush(),
+            Target::Stdout(stdout) => stdout.flush(),
+        }
+    }
+}
+
+/// A file that is written: beside its name until it is kept, or, if a device, a pipe or standard
+/// output has that, straight.
 #[derive(Drop)]
 pub(crate) struct Written<'a> {
-    device: Device<BufWriter<Noted<'a, File>>>,
+    device: Device<BufWriter<Noted<'a, Target>>>,
     part: Option<Part>,
     // How the last call with an offset or a length left the file.
     left: Option<FileState>,
@@ -24,7 +47,7 @@ pub(crate) struct Written<'a> {
 
 impl<'a> Written<'a> {
     /// A file of which nothing was written, and where it goes if not straight to its name.
-    pub(crate) fn new(writer: BufWriter<Noted<'a, File>>, part: Option<Part>) -> Written<'a> {
+    pub(crate) fn new(writer: BufWriter<Noted<'a, Target>>, part: Option<Part>) -> Written<'a> {
         Written {
             device: Device::new(writer),
             part,
@@ -33,7 +56,7 @@ impl<'a> Written<'a> {
     }
 
     /// The file, and where it goes.
-    pub(crate) fn into_parts(self) -> (File, Option<Part>) {
+    pub(crate) fn into_parts(self) -> (Target, Option<Part>) {
         let Written {
             device,
             part,
@@ -43,12 +66,16 @@ impl<'a> Written<'a> {
         (noted.into_inner(), part)
     }
 
-    fn noted(&self) -> &Noted<'a, File> {
+    fn noted(&self) -> &Noted<'a, Target> {
         self.device.get_ref().get_ref()
     }
 
-    fn file(&self) -> &File {
-        self.noted().inner()
+    // What has offsets.
+    fn file(&self) -> Result<&File, Failed> {
+        match self.noted().inner() {
+            Target::File(file) => Ok(file),
+            Target::Stdout(_) => Err(Failed),
+        }
     }
 
     fn append(&mut self, bytes: &[u8]) -> Result<usize, Failed>
@@ -63,7 +90,7 @@ impl<'a> Written<'a> {
     // it was left, as far as that can be seen.
     fn flush_unchanged(&mut self) -> Result<(), Failed> {
         self.device.flush()?;
-        if FileState::has_changed(self.left, self.file()) {
+        if FileState::has_changed(self.left, self.file()?) {
             let changed = io::Error::other("another program has changed it");
             let _ = self.noted().see::<()>(Err(changed));
             return Err(Failed);
@@ -74,12 +101,12 @@ impl<'a> Written<'a> {
     // Whatever is written next stands behind the file's end, as that of an output that grows.
     fn resize(&mut self, len: u64) -> Result<(), Failed> {
         self.flush_unchanged()?;
-        let mut file = self.file();
+        let mut file = self.file()?;
         let set = self.noted().see(file.set_len(len));
         if set.is_err() || self.noted().see(file.seek(SeekFrom::End(0))).is_err() {
             return Err(Failed);
         }
-        self.left = FileState::of(self.file());
+        self.left = FileState::of(self.file()?);
         Ok(())
     }
 
@@ -88,9 +115,10 @@ impl<'a> Written<'a> {
         ensures some { IfOk result (λ n. 0 < length bytes.now → 0 < n) }
     {
         self.flush_unchanged()?;
-        match self.noted().see(self.file().write_at(bytes, offset)) {
+        let file = self.file()?;
+        match self.noted().see(file.write_at(bytes, offset)) {
             Ok(n) if n > 0 || bytes.is_empty() => {
-                self.left = FileState::of(self.file());
+                self.left = FileState::of(file);
                 Ok(n)
             }
             _ => Err(Failed),
@@ -101,7 +129,8 @@ impl<'a> Written<'a> {
         ensures bound { IfOk result (λ n. n ≤ length buf.old) }
     {
         self.flush_unchanged()?;
-        match self.noted().see(self.file().read_at(buf, offset)) {
+        let file = self.file()?;
+        match self.noted().see(file.read_at(buf, offset)) {
             Ok(n) => Ok(n),
             Err(_) => Err(Failed),
         }

@@ -7,19 +7,19 @@ ghost use Rattle.host.specs.Worlds.{untold};
 use crate::creating::{Wanted, is_lack_of_memory, is_straight};
 use crate::failures::{Failures, Noted};
 use crate::input::HostInput;
-use crate::output::{HostOutput, Written};
+use crate::output::{HostOutput, Target, Written};
 use crate::parts::Part;
-use crate::state::FileState;
+use crate::state::{FileId, FileState};
 use host::{FileFault, Host, KeepFault};
-use inspection::{Name, STANDARD_INPUT, input_name};
+use inspection::{Name, STANDARD_STREAM, input_name};
 use progress::{Counted, Progress};
-use request::Output;
+use request::{Output, Request};
 use session::{Device, Failed, write_all};
 use std::alloc::{AllocError, Global};
 use std::cell::Cell;
 use std::fs::File;
 use std::io::{BufReader, BufWriter};
-use std::rt::Files;
+use std::rt::{Files, Stdout};
 use std::time::Clock;
 use std::{fs, io};
 
@@ -32,14 +32,17 @@ const TAKEN: &str = "it can be read once, and - is the name of more than one inp
 /// Where standard input is opened.
 const INPUT_DEVICE: &str = "/dev/stdin";
 
-/// The files that names lead to as paths, `-` as standard input where it is read, and standard
-/// output.
+/// The files that names lead to as paths, `-` as standard input or standard output, and an output
+/// for lines.
 #[derive(Drop)]
 pub struct ProgramHost<'a, R, O: std::io::Write + Drop> {
     rt: &'a R,
     alloc: Global,
     out: Device<BufWriter<O>>,
+    stdout: Stdout,
     took_input: Cell<bool>,
+    /// Inputs that no output replaces.
+    guarded: [Option<FileId>; 3],
     /// Whether sentences are wanted.
     is_telling: bool,
     progress: &'a Progress,
@@ -47,11 +50,12 @@ pub struct ProgramHost<'a, R, O: std::io::Write + Drop> {
 }
 
 impl<'a, R, O: std::io::Write + Drop> ProgramHost<'a, R, O> {
-    /// The files, through the host's runtime, this output for lines, what is told of inputs, and
-    /// where it is kept that calls have failed.
+    /// The files, through the host's runtime, standard output, this output for lines, what is told
+    /// of inputs, and where it is kept that calls have failed.
     pub fn new(
         rt: &'a R,
         alloc: Global,
+        stdout: Stdout,
         out: Device<BufWriter<O>>,
         progress: &'a Progress,
         failures: &'a Failures,
@@ -62,7 +66,9 @@ impl<'a, R, O: std::io::Write + Drop> ProgramHost<'a, R, O> {
             rt,
             alloc,
             out,
+            stdout,
             took_input: Cell::new(false),
+            guarded: [None; 3],
             is_telling: false,
             progress,
             failures,
@@ -85,7 +91,7 @@ impl<'a, R, O: std::io::Write + Drop> ProgramHost<'a, R, O> {
 impl<'a, R: Files<File = File>, O: std::io::Write + Drop> ProgramHost<'a, R, O> {
     // The file of this name, or standard input, whose bytes come once: it isn't opened again.
     fn open_input(&self, name: &str) -> io::Result<File> {
-        if name != STANDARD_INPUT {
+        if name != STANDARD_STREAM {
             return fs::open(self.rt, name);
         }
         if self.took_input.replace(true) {
@@ -100,20 +106,41 @@ impl<'a, R: Files<File = File>, O: std::io::Write + Drop> ProgramHost<'a, R, O> 
             alloc: self.alloc,
             name: name.to_string(self.alloc)?,
             no_clobber,
+            guarded: self.guarded,
+            stdout: self.stdout,
             failures: self.failures,
         })
     }
 
+    /// From now on no output replaces an input that the request needs beside it. What a command
+    /// makes of one file, as `drop` does, may replace that.
+    pub fn guard(&mut self, request: &Request<'_>)
+        ensures { self.new.out ≡ self.old.out }
+    {
+        let inputs = match request {
+            Request::Check(_) | Request::Twin(_) | Request::Encode(_) | Request::Certify(_) => {
+                [request.session(), request.object(), request.certificate()]
+            }
+            _ => [None; 3],
+        };
+        for place in 0..3 {
+            self.guarded[place] = match inputs[place] {
+                Some(name) => FileId::of_name(self.rt, name),
+                None => None,
+            };
+        }
+    }
+
     // Closes a file that isn't kept, and takes it away.
     fn discard(&self, written: Written<'_>) {
-        let (file, part) = written.into_parts();
+        let (target, part) = written.into_parts();
         self.remove(&part);
-        drop(file);
+        drop(target);
     }
 
     // Gives what was written the place of the file of this name; whether that went well.
-    fn put_in_place(&self, name: &str, file: &File, part: &Option<Part>) -> bool {
-        let Some(part) = part else {
+    fn put_in_place(&self, name: &str, target: &Target, part: &Option<Part>) -> bool {
+        let (Some(part), Target::File(file)) = (part, target) else {
             return true;
         };
         match part.keep(self.rt, file) {
@@ -147,7 +174,9 @@ impl<R: Files<File = File> + Clock + Eprint, O: std::io::Write + Drop> ProgramHo
     /// Says so where the output of what will come can't be created, as far as a try tells, which
     /// leaves nothing. A pipe or a device isn't tried, as that could take something from it.
     pub fn forewarn(&self, output: &Output<'_>) {
-        if !output.no_clobber && is_straight(self.rt, output.name) {
+        let is_written_straight = output.name == STANDARD_STREAM
+            || !output.no_clobber && is_straight(self.rt, output.name);
+        if is_written_straight {
             return;
         }
         let Ok(wanted) = self.wanted(output.name, output.no_clobber) else {
@@ -189,8 +218,9 @@ impl<'a, R: Files<File = File> + Clock + Eprint, O: std::io::Write + Drop> Host
 
     type Output = HostOutput<'a, R>;
 
-    // Nothing is told of files and output but whether the output has failed.
-    ghost world = { λ host. untold host.out.failed };
+    // Nothing is told of files; of what was printed, what the output's writer tells.
+    ghost world = { λ host.
+        untold (writer_contents O.contents host.out.inner) host.out.failed };
 
     fn open_file(&self, name: &str) -> Result<HostInput<'a, R>, FileFault> {
         let told = input_name(name).text;
@@ -248,16 +278,16 @@ impl<'a, R: Files<File = File> + Clock + Eprint, O: std::io::Write + Drop> Host
         let Some(written) = output.into_written() else {
             return Err(KeepFault::Uncreated);
         };
-        let (file, part) = written.into_parts();
-        let is_kept = flushed.is_ok() && self.put_in_place(name, &file, &part);
+        let (target, part) = written.into_parts();
+        let is_kept = flushed.is_ok() && self.put_in_place(name, &target, &part);
         if !is_kept {
             self.remove(&part);
         }
-        drop(file);
+        drop(target);
         if is_kept { Ok(()) } else { Err(KeepFault::Io) }
     }
 
-    fn give_up(&mut self, output: HostOutput<'a, R>) -> FileFault {
+    fn give_up(&mut self, _name: &str, output: HostOutput<'a, R>) -> FileFault {
         if let Some(written) = output.into_written() {
             self.discard(written);
         }

@@ -1,14 +1,38 @@
 //! By what it is seen that a file has changed.
-use std::fs::{File, Metadata};
+use std::fs::{self, File, Metadata};
 use std::os::unix::fs::MetadataExt;
+use std::rt::Files;
+
+/// Which file it is, whatever names it has.
+#[derive(Clone, Copy, PartialEq, Eq)]
+pub(crate) struct FileId {
+    device: u64,
+    number: u64,
+}
+
+fn id_of(there: &Metadata) -> FileId {
+    FileId {
+        device: there.dev(),
+        number: there.ino(),
+    }
+}
+
+impl FileId {
+    /// The regular file that a name leads to, if it does.
+    pub(crate) fn of_name<R: Files>(rt: &R, name: &str) -> Option<FileId> {
+        match fs::metadata(rt, name) {
+            Ok(there) if there.is_file() => Some(id_of(&there)),
+            _ => None,
+        }
+    }
+}
 
 /// Which file it is, its length, and when its bytes and its properties were changed last. Whoever
 /// puts the first time back changes the second. What is written to memory that has the file mapped
 /// needn't change either.
 #[derive(Clone, Copy, PartialEq, Eq)]
 pub(crate) struct FileState {
-    device: u64,
-    number: u64,
+    id: FileId,
     length: u64,
     modified: (i64, i64),
     changed: (i64, i64),
@@ -16,8 +40,7 @@ pub(crate) struct FileState {
 
 fn state_of(there: &Metadata) -> FileState {
     FileState {
-        device: there.dev(),
-        number: there.ino(),
+        id: id_of(there),
         length: there.len(),
         modified: (there.mtime(), there.mtime_nsec()),
         changed: (there.ctime(), there.ctime_nsec()),

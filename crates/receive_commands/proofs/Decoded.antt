@@ -1,5 +1,5 @@
 -- A session that was decoded, by its parts.
-use Rattle.std.proofs.Common.{◌≡◌, ◌⊎◌, ◌∙◌, ℕ, Bool, List, [], ◌∷◌, Option, Some, None, Result, Ok, Err, inl, inr, refl, sym, ap, subst, length, codes}
+use Rattle.std.proofs.Common.{◌≡◌, ◌⊎◌, ◌∙◌, ℕ, Bool, false, List, [], ◌∷◌, Option, Some, None, Result, Ok, Err, inl, inr, refl, sym, ap, subst, length, codes}
 use Rattle.std.specs.Prelude.{IfErr, IfSome, replicate}
 use Rattle.std.specs.Borrow.{Bor}
 use Rattle.session.specs.Frames.{StopsAt}
@@ -25,13 +25,13 @@ use Rattle.decoder.specs.declared.answer.Answer.TheVariants.{Empty, Fault, Missi
 use Rattle.block_recovery.specs.declared.fault.DecodeFault.TheVariants.{Packet, OtherFti, SymbolLength, Range, Clash, NotCode}
 use Rattle.request.specs.declared.requests.DecodeRequest.{DecodeRequest}
 use Rattle.request.specs.declared.requests.Request.TheVariants.{Decode}
-use Rattle.host.specs.World.{Files, GivesFile, Holds, IsFree, IsSilent, KeepsFiles, Replaces, World, one_more}
+use Rattle.host.specs.World.{Reading, MayFail, Files, GivesFile, Holds, IsFree, IsSilent, KeepsFiles, Replaces, World}
 use Rattle.commands.specs.Inputs.{ASession, Opened, HasValue, IsUnread}
 use Rattle.commands.specs.Lines.{line_of, count_line, answer_text}
 use Rattle.commands.specs.Commands.{answer_status, object_of, IsAnswerIn}
-use Rattle.commands.specs.Outcomes.{GivesOutput, MayCreate, MayHaveCreated, IsBecause}
+use Rattle.commands.specs.Outcomes.{HasAsked, GivesOutput, MayCreate, MayHaveCreated, IsBecause}
 use Rattle.commands.specs.ReadingInputs.{HasChanged}
-use Rattle.receive_commands.proofs.Showed.{changed_unread}
+use Rattle.commands.proofs.Passing.{session_changed}
 use Rattle.commands.specs.Doing.{HasMade, HasStopped, IsUnwrittenAgain, text_of}
 use Rattle.receive_commands.specs.Decoding.{IsToldOf, IsWriteBroken}
 use Rattle.commands.specs.declared.done.Done.{Done}
@@ -39,7 +39,7 @@ use Rattle.commands.specs.declared.fault.Fault as told
 use Rattle.commands.specs.declared.fault.Fault.TheVariants as told_as
 use Rattle.commands.specs.declared.output.Unwritten.{Unwritten}
 use Rattle.commands.specs.declared.output.Unwritten.TheVariants as unwritten
-use Rattle.commands.proofs.Stopping.{by_unread, may_fail}
+use Rattle.commands.proofs.Stopping.{by_unread}
 use Rattle.commands.proofs.Holding.{holds_told}
 
 -- an answer that is no object has no bytes
@@ -94,7 +94,7 @@ module _ (old new : World) (r : DecodeRequest) (content : Option (List ℕ)) (he
   }
 
   pub object_decoded : (object : List ℕ) (count : ℕ) → IsAnswerIn r.identity content (value.Object object) → count ≡ length object → Replaces old.files new.files r.output.name.now object
-      → new.created ≡ one_more old.created → IsFree old.files r.output.name.now r.output.no_clobber
+      → HasAsked old new r.output → IsFree old.files r.output.name.now r.output.no_clobber
       → (done : Done) → count_line (codes "object") count (codes " bytes") ≡ text_of done.told → 0 ≡ done.status → HasMade old new (Decode r) done
   object_decoded object count is many replaced created free done text status = record {
     outcome = record { text = line_of (answer_text (value.Object object)); status = 0; output = Some object };
@@ -117,10 +117,10 @@ pub placed_of : (who : Identity) (content : Option (List ℕ)) (s : FileSymbols)
 placed_of who content s h = subst (λ (w : Identity). Placed w content s) h.0 h.1.1
 
 -- the output was created and given up
-pub given_up : (old mid new : World) (r : DecodeRequest) → MayCreate old.files (Decode r) → mid.files ≡ old.files → IsSilent old mid → mid.created ≡ one_more old.created → KeepsFiles mid new
+pub given_up : (old mid new : World) (r : DecodeRequest) → MayCreate old.files (Decode r) → mid.files ≡ old.files → IsSilent old mid → HasAsked old mid r.output → KeepsFiles mid new
     → IsSilent mid new → HasStopped old new (Decode r) told_as.Memory
 given_up old mid new r may files silent created keeps silent_then = record {
-  stopped = record { because = tt; before = refl; files = keeps.files ∙ files; created = inr (keeps.created ∙ created, may) };
+  stopped = record { because = tt; before = refl; files = keeps.files ∙ files; created = inr ((r.output, refl, keeps.created ∙ created), may) };
   silent = silent_then.printed ∙ silent.printed;
 }
 
@@ -145,7 +145,7 @@ pub delivered : (old new : World) (mid : Option Files) (r : DecodeRequest) (cont
     → Holds old.files r.session.now (λ bytes. content ≡ Some bytes) → new.printed ≡ old.printed → Placed r.identity content s
     → ((ds : List (List ℕ)) (x : List ℕ) → content ≡ Some x → ArePlacedOf r.identity ds x s → IsWrittenOf r.identity ds blank contents count)
     → IfSome old.files (λ held. blank ≡ Some []) → mid ≡ old.files → IfSome contents (Replaces mid new.files r.output.name.now)
-    → new.created ≡ one_more old.created → IsFree old.files r.output.name.now r.output.no_clobber
+    → HasAsked old new r.output → IsFree old.files r.output.name.now r.output.no_clobber
     → (done : Done) → count_line (codes "object") count (codes " bytes") ≡ text_of done.told → 0 ≡ done.status → HasMade old new (Decode r) done
 delivered old new mid r None s blank contents count given silent placed written empty same kept created free done text status =
     let none = nothing_held old.files r.session.now given in
@@ -181,8 +181,8 @@ object_given files r (Some x) s blank contents count given placed written =
     )
 
 -- why it isn't, also where the file has changed
-pub because_changed : (old new : World) (r : DecodeRequest) (f : told.Fault) → HasChanged old r.session.now f → IsBecause old new (Decode r) [] f
-because_changed old new r f why = by_unread old new (Decode r) [] f (inl (changed_unread old r.session.now f why))
+pub because_changed : (old new : World) (r : DecodeRequest) (reliable : Bool) → (reliable ≡ false → MayFail old (Reading r.session.now)) → (f : told.Fault) → HasChanged reliable r.session.now f → IsBecause old new (Decode r) [] f
+because_changed old new r reliable fails f why = by_unread old new (Decode r) [] f (inl (session_changed old r.session.now reliable fails f why))
 
 abbrev pub equal : Result ℕ Unwritten → Result ℕ Unwritten → Type 0
 equal a b = a ≡ b
@@ -193,23 +193,13 @@ same_err e f = equal (Err e) (Err (unwritten.Fault f))
 fault_in : (e : Unwritten) (f : told.Fault) → same_err e f → e ≡ unwritten.Fault f
 fault_in e f is = cc
 
-changed_before : (old mid : World) (name : List ℕ) (f : told.Fault) → mid.files ≡ old.files → IsSilent old mid → HasChanged mid name f → HasChanged old name f
-changed_before old mid name (told_as.File n) files silent (is, fails) = (is, may_fail old mid files silent fails)
-changed_before old mid name (told_as.Open n) files silent why = absurd why
-changed_before old mid name told_as.Memory files silent why = absurd why
-changed_before old mid name (told_as.Frame e) files silent why = absurd why
-changed_before old mid name (told_as.Certificate e) files silent why = absurd why
-changed_before old mid name (told_as.Fti e) files silent why = absurd why
-changed_before old mid name (told_as.Send e) files silent why = absurd why
-changed_before old mid name (told_as.NoPlace n) files silent why = absurd why
-
 -- why it wasn't written to its end, or that the file has changed since
-pub because_not_again : {T : Type 0} (old mid new : World) (r : DecodeRequest) → mid.files ≡ old.files → IsSilent old mid → (w : Result T Unwritten) → IfErr w (IsWriteBroken old r.session.now) → (e : Unwritten)
-    → (w ≡ Err e) ⊎ IsUnwrittenAgain mid r.session.now e → (f : told.Fault) → same_err e f → IsBecause old new (Decode r) [] f
-because_not_again {T = T} old mid new r files silent w why e (inl same) f is =
+pub because_not_again : {T : Type 0} (old new : World) (r : DecodeRequest) → (reliable : Bool) → (reliable ≡ false → MayFail old (Reading r.session.now)) → (w : Result T Unwritten) → IfErr w (IsWriteBroken old r.session.now) → (e : Unwritten)
+    → (w ≡ Err e) ⊎ IsUnwrittenAgain reliable r.session.now e → (f : told.Fault) → same_err e f → IsBecause old new (Decode r) [] f
+because_not_again {T = T} old new r reliable fails w why e (inl same) f is =
     by_unread old new (Decode r) [] f (inl (subst (λ (u : Unwritten). IsWriteBroken old r.session.now u) (fault_in e f is) (subst (λ (x : Result T Unwritten). IfErr x (IsWriteBroken old r.session.now)) same why)))
-because_not_again old mid new r files silent w why e (inr again) f is =
-    because_changed old new r f (changed_before old mid r.session.now f files silent (subst (λ (u : Unwritten). IsUnwrittenAgain mid r.session.now u) (fault_in e f is) again))
+because_not_again old new r reliable fails w why e (inr again) f is =
+    because_changed old new r reliable fails f (subst (λ (u : Unwritten). IsUnwrittenAgain reliable r.session.now u) (fault_in e f is) again)
 
 -- the symbols turned out to be of no object
 pub refuted : (who : Identity) (content : Option (List ℕ)) (s : FileSymbols) (answer : Answer) → Placed who content s

@@ -13,19 +13,19 @@ use Rattle.receiver.specs.Filed.{Stands}
 use Rattle.receiver.specs.Receiving.{LeaveNoneShort}
 use Rattle.request.specs.declared.requests.FollowRequest.{FollowRequest}
 use Rattle.request.specs.declared.requests.Request.TheVariants.{Follow}
-use Rattle.host.specs.World.{Files, World, Holds, KeepsFiles, IsFree, IsSilent, IsToStay, MayFail, Replaces, one_more}
+use Rattle.host.specs.World.{Creating, Writing, Files, World, Holds, KeepsFiles, IsFree, IsSilent, IsToStay, Replaces}
 use Rattle.commands.specs.Inputs.{Opened}
 use Rattle.commands.specs.Lines.{line_of, count_line, answer_text}
 use Rattle.commands.specs.Commands.{Outcome}
 use Rattle.commands.specs.Following.{IsHeard, Ends, complete_line, ends_text}
-use Rattle.commands.specs.Outcomes.{GivesOutput, Makes, IsDone, IsBecause, IsUnprinted}
+use Rattle.commands.specs.Outcomes.{HasAsked, GivesOutput, Makes, IsDone, IsBecause, IsStopped, IsUnprinted}
 use Rattle.commands.specs.Doing.{IsUncreated, IsUndone, IsUnwritten}
 use Rattle.receive_commands.specs.Listening.{stopped_by, AreSaid, IsCreatedFor, IsFollowed, IsFull, IsReceived, IsUnkeptOf, IsWritten}
 use Rattle.commands.specs.declared.fault.Fault.{Fault}
 use Rattle.commands.specs.declared.fault.Fault.TheVariants.{Open, File, Memory, Frame, Certificate, Fti, Send, NoPlace}
 use Rattle.receive_commands.specs.declared.follow.Followed.{Followed}
 use Rattle.receive_commands.proofs.Followed.{holds_then, opened_of, has_opened, of_opened}
-use Rattle.commands.proofs.Stopping.{by_unmade}
+use Rattle.commands.proofs.Stopping.{by_unmade, may_fail}
 
 -- the object that is kept: what the bytes give, or any of its length where no files are told
 kept_object : (fs before after : Option Files) (name out : List ℕ) (n : ℕ) (P : List ℕ → Type 0) (Q : List ℕ → List ℕ → Type 0) → before ≡ fs → Holds fs name P
@@ -62,7 +62,7 @@ module _ {W : Type 0} {w : Ghosts W} (r : FollowRequest) (old mid : World) (f : 
       (subst (λ (x : Bool). AreSaid mid b (complete_line f.count) x) so first)
 
   module _ (new : World) (silent : IsSilent b new) (created : new.created ≡ b.created) where
-    created_now : new.created ≡ one_more old.created
+    created_now : HasAsked old new r.output
     created_now = created ∙ before.created ∙ created_here.0
 
     told_now : said ≡ true → Appends old.printed new.printed text
@@ -75,10 +75,6 @@ module _ {W : Type 0} {w : Ghosts W} (r : FollowRequest) (old mid : World) (f : 
     module _ (files : new.files ≡ b.files) where
       abbrev AreGiven : Fault → Type 0
       AreGiven fault = (taken : List (List ℕ)) → Stands f.receiver taken → LeaveNoneShort f.receiver.receiving.identity taken → IsUnkeptOf f.receiver.receiving.identity taken fault
-
-      may_fail : MayFail b → MayFail old
-      may_fail (inl untold) = inl (sym is.files ∙ sym before.files ∙ untold)
-      may_fail (inr fallible) = inr (sym is.fallible ∙ sym before.fallible ∙ fallible)
 
       -- it is there, though
       gives : (name : Bor (List ℕ)) → AreGiven (Open name) → GivesOutput old.files (Follow r)
@@ -98,7 +94,7 @@ module _ {W : Type 0} {w : Ghosts W} (r : FollowRequest) (old mid : World) (f : 
           )
 
       uncreated : (fault : Fault) → AreGiven fault → IsUncreated b r.output fault → IsBecause old new (Follow r) text fault
-      uncreated (Open name) given (named, inl fails) = by_unmade old new (Follow r) text (Open name) (r.output, refl, named, inl (may_fail fails), gives name given, created_now)
+      uncreated (Open name) given (named, inl fails) = by_unmade old new (Follow r) text (Open name) (r.output, refl, named, inl (may_fail old b (Creating r.output.name.now) (before.files ∙ is.files) (before.refused ∙ is.refused) fails), gives name given, created_now)
       uncreated (Open name) given (named, inr stays) = by_unmade old new (Follow r) text (Open name)
           (r.output, refl, named, inr (subst (λ (x : Option Files). IsToStay x r.output.name.now r.output.no_clobber) (before.files ∙ is.files) stays), gives name given, created_now)
       uncreated (File n) given why = absurd why
@@ -109,29 +105,28 @@ module _ {W : Type 0} {w : Ghosts W} (r : FollowRequest) (old mid : World) (f : 
       uncreated (Send e) given why = absurd why
       uncreated (NoPlace n) given why = absurd why
 
-      because : (name : Bor (List ℕ)) → name.now ≡ r.output.name.now → (fault : Fault) → AreGiven fault → IsUncreated b r.output fault ⊎ IsUnwritten b (File name) fault
+      because : (name : Bor (List ℕ)) → name.now ≡ r.output.name.now → (fault : Fault) → AreGiven fault → IsUncreated b r.output fault ⊎ IsUnwritten b r.output (File name) fault
           → IsBecause old new (Follow r) text fault
       because name named fault given (inl why) = uncreated fault given why
       because name named fault given (inr (inl none)) = subst (λ (x : Fault). IsBecause old new (Follow r) text x) (sym none) tt
       because name named fault given (inr (inr (same, fails))) =
-          subst (λ (x : Fault). IsBecause old new (Follow r) text x) (sym same) (by_unmade old new (Follow r) text (File name) (may_fail fails, named, created_now))
+          subst (λ (x : Fault). IsBecause old new (Follow r) text x) (sym same) (by_unmade old new (Follow r) text (File name) (r.output, refl, may_fail old b (Writing r.output.name.now) (before.files ∙ is.files) (before.refused ∙ is.refused) fails, named, created_now))
 
-      pub not_kept : (name : Bor (List ℕ)) → name.now ≡ r.output.name.now → (fault : Fault) → AreGiven fault → IsUncreated b r.output fault ⊎ IsUnwritten b (File name) fault
+      pub not_kept : (name : Bor (List ℕ)) → name.now ≡ r.output.name.now → (fault : Fault) → AreGiven fault → IsUncreated b r.output fault ⊎ IsUnwritten b r.output (File name) fault
           → IsUndone old new (Follow r) (stopped_by fault said)
       not_kept name named fault given why = go said refl
         where
+          stopped_here : IsStopped old new (Follow r) text fault
+          stopped_here = record {
+            because = because name named fault given why;
+            before = inr (holds_then old.files r.session.now _ _ (λ bytes (left, taken, stands, full, heard). (left, f.count, taken, is.lines, heard, inr (full, refl))) is.heard);
+            files = files ∙ before.files ∙ is.files;
+            created = inr ((r.output, refl, created_now), created_here.1);
+          }
+
           go : (p : Bool) → said ≡ p → IsUndone old new (Follow r) (stopped_by fault p)
-          go true so = (
-            text,
-            told_now so,
-            record {
-              because = because name named fault given why;
-              before = inr (holds_then old.files r.session.now _ _ (λ bytes (left, taken, stands, full, heard). (left, f.count, taken, is.lines, heard, inr (full, refl))) is.heard);
-              files = files ∙ before.files ∙ is.files;
-              created = inr (created_now, created_here.1);
-            },
-          )
-          go false so = record { failed = failed_now so; done = inr (inr (files ∙ before.files ∙ is.files, inr (created_now, created_here.1))) }
+          go true so = (text, told_now so, stopped_here)
+          go false so = record { failed = failed_now so; done = inr (text, fault, stopped_here) }
 
     -- it is
     module _ (free : IsFree b.files r.output.name.now r.output.no_clobber) (n : ℕ) (written : (taken : List (List ℕ)) → Stands f.receiver taken → LeaveNoneShort f.receiver.receiving.identity taken
@@ -183,10 +178,10 @@ module _ {W : Type 0} {w : Ghosts W} (r : FollowRequest) (old mid : World) (f : 
               object_line)
 
       pub undelivered : (end : World) → KeepsFiles new end → end.failed ≡ true → IsUnprinted old end (Follow r)
-      undelivered end then failed = record { failed = failed; done = inr (inl (outcome, makes end then)) }
+      undelivered end then failed = record { failed = failed; done = inl (outcome, makes end then) }
 
       pub undelivered_unsaid : said ≡ false → IsUnprinted old new (Follow r)
       undelivered_unsaid so = record {
         failed = failed_now so;
-        done = inr (inl (outcome, makes new (record { files = refl; fallible = refl; created = refl })));
+        done = inl (outcome, makes new (record { files = refl; refused = refl; created = refl }));
       }

@@ -32,12 +32,12 @@ use Rattle.receiver.specs.declared.receiving.Receiving.{Receiving}
 use Rattle.receiver.specs.declared.file_receiver.FileReceiver.{FileReceiver}
 use Rattle.request.specs.declared.requests.FollowRequest.{FollowRequest}
 use Rattle.request.specs.declared.requests.Request.TheVariants.{Follow}
-use Rattle.host.specs.World.{Files, World, Holds, IsBlank, IsSilent, KeepsFiles, MayFail, one_more}
+use Rattle.host.specs.World.{Reading, Writing, Files, World, Holds, IsBlank, IsSilent, KeepsFiles, MayFail, one_more}
 use Rattle.commands.specs.Inputs.{AStream, Opened, HasValue}
 use Rattle.commands.specs.Lines.{line_of, answer_text}
 use Rattle.commands.specs.Commands.{Outcome, answer_status, object_of}
 use Rattle.commands.specs.Following.{refusal_line, IsNotTaken, Comes, Come, IsHeard, IsHeardInPart, BringsCarrier, ends_text, Ends}
-use Rattle.commands.specs.Outcomes.{Makes, IsDone, IsMade, IsBecause, IsGivenUp, IsUnprinted, MayCreate, IsStopped}
+use Rattle.commands.specs.Outcomes.{HasAsked, MayHaveCreated, Makes, IsDone, IsMade, IsBecause, IsUnprinted, MayCreate, IsStopped}
 use Rattle.commands.specs.Doing.{IsUncommitted, IsUndone}
 use Rattle.receive_commands.specs.Listening.{AreSaid, stopped_by, IsCreatedFor, IsFollowed, IsShort, IsFull, HasHeardSome, IsLacking, IsUnread, IsUnheard, IsHearing}
 use Rattle.commands.specs.ReadingInputs.{IsFrameUnread}
@@ -47,7 +47,7 @@ use Rattle.receive_commands.specs.declared.follow.Followed.{Followed}
 use Rattle.commands.specs.declared.output.Unwritten.{Unwritten}
 use Rattle.commands.specs.declared.output.Unwritten.TheVariants as unwritten
 use Rattle.receive_commands.proofs.Showed.{keeps}
-use Rattle.commands.proofs.Stopping.{by_refused, by_unmade}
+use Rattle.commands.proofs.Stopping.{by_refused, by_unmade, may_fail}
 use Rattle.commands.proofs.Holding.{nothing_consumed}
 
 nothing_more : (a : Option (List ℕ)) → Appends a a []
@@ -167,10 +167,6 @@ module _ (r : FollowRequest) (old : World) where
 
 module _ {W : Type 0} {w : Ghosts W} (r : FollowRequest) (old : World) where
   module _ (mid : World) (before : Followed W w) (P : List ℕ → List ℕ → Type 0) (h : IsFollowed r old mid before P) where
-    pub may_fail_here : MayFail mid → MayFail old
-    may_fail_here (inl untold) = inl (sym h.files ∙ untold)
-    may_fail_here (inr fallible) = inr (sym h.fallible ∙ fallible)
-
     -- another receiver, while nothing is printed
     pub followed_as : (new : World) (after : Followed W w) (Q : List ℕ → List ℕ → Type 0) → new.files ≡ mid.files → IsSilent mid new → IsSoundIn after.receiver.receiving.store
         → after.receiver.receiving.identity ≡ before.receiver.receiving.identity → IsCreatedFor r old new (has_output after.receiver) → after.said ≡ before.said
@@ -179,7 +175,7 @@ module _ {W : Type 0} {w : Ghosts W} (r : FollowRequest) (old : World) where
       sound = sound;
       identity = identity ∙ h.identity;
       files = files ∙ h.files;
-      fallible = silent.fallible ∙ h.fallible;
+      refused = silent.refused ∙ h.refused;
       created = created;
       lines = h.lines;
       said = said_still r old mid new h.lines before.said after.said silent said h.said;
@@ -192,7 +188,7 @@ module _ {W : Type 0} {w : Ghosts W} (r : FollowRequest) (old : World) where
       sound = h.sound;
       identity = h.identity;
       files = h.files;
-      fallible = h.fallible;
+      refused = h.refused;
       created = h.created;
       lines = h.lines;
       said = h.said;
@@ -212,7 +208,7 @@ module _ {W : Type 0} {w : Ghosts W} (r : FollowRequest) (old : World) where
     sound = sound;
     identity = identity;
     files = refl;
-    fallible = refl;
+    refused = refl;
     created = subst (λ (b : Bool). IsCreatedFor r old old b) (sym none) refl;
     lines = [];
     said = nothing_more old.printed;
@@ -249,7 +245,7 @@ module _ {W : Type 0} {w : Ghosts W} (r : FollowRequest) (old : World) where
               (created_still r old mid new same (has_output f.receiver) (has_output f.receiver) refl is.created) refl (some_heard mid before f is).heard,
         )
 
-        pub prepared : (output : Option (List ℕ)) → IsBlank mid output → new.created ≡ one_more mid.created
+        pub prepared : (output : Option (List ℕ)) → IsBlank mid output → HasAsked mid new r.output
             → (receiver : FileReceiver W w) → receiver.receiving ≡ f.receiver.receiving → has_output receiver ≡ true
             → ((ds : List (List ℕ)) → Stands f.receiver ds → IsSome output → Stands receiver ds)
             → let next : Followed W w = record { receiver = receiver; count = f.count; said = f.said; contradictions = f.contradictions } in IsFollowed r old new next (IsShort r before next)
@@ -257,7 +253,7 @@ module _ {W : Type 0} {w : Ghosts W} (r : FollowRequest) (old : World) where
             let next : Followed W w = record { receiver = receiver; count = f.count; said = f.said; contradictions = f.contradictions } in
             followed_as mid f (IsShort r before f) is new next (IsShort r before next) files silent (subst (λ (x : Receiving). IsSoundIn x.store) (sym same) is.sound) (ap (λ (x : Receiving). x.identity) same)
             (subst (λ (b : Bool). IsCreatedFor r old new b) (sym has)
-            (created ∙ ap one_more none_created, may)) refl
+            (created ∙ ap (one_more r.output.name.now r.output.no_clobber) none_created, may)) refl
             (told old.files (subst (λ (fs : Option Files). IfSome fs (λ held. output ≡ Some [])) is.files blank) is.heard)
           where
             told : (fs : Option Files) → IfSome fs (λ held. output ≡ Some []) → Holds fs r.session.now (λ bytes. IsShort r before f bytes is.lines)
@@ -273,7 +269,7 @@ module _ {W : Type 0} {w : Ghosts W} (r : FollowRequest) (old : World) where
       fed said contradictions = record { receiver = receiver; count = n; said = said; contradictions = contradictions }
 
       silent_self : IsSilent mid mid
-      silent_self = record { printed = refl; failed = refl; fallible = refl }
+      silent_self = record { printed = refl; failed = refl; refused = refl }
 
       fed_as : (Q : List ℕ → List ℕ → Type 0) → ((bytes : List ℕ) → IsShort r before f bytes is.lines → Q bytes is.lines) → IsFollowed r old mid (fed f.said f.contradictions) Q
       fed_as Q g = followed_as mid f (IsShort r before f) is mid (fed f.said f.contradictions) Q refl silent_self sound same
@@ -320,7 +316,7 @@ module _ {W : Type 0} {w : Ghosts W} (r : FollowRequest) (old : World) where
         sound = sound;
         identity = same ∙ is.identity;
         files = kept.files ∙ is.files;
-        fallible = kept.fallible ∙ is.fallible;
+        refused = kept.refused ∙ is.refused;
         created = created_still r old mid new kept.created (has_output f.receiver) (has_output receiver) has is.created;
         lines = is.lines ++ refusal_line f.count fault;
         said = then_said old mid new is.lines (refusal_line f.count fault) f.said said is.said line first;
@@ -345,17 +341,17 @@ module _ {W : Type 0} {w : Ghosts W} (r : FollowRequest) (old : World) where
 
   -- no frame comes, or none can be read
   pub cut : (mid : World) (left rest : Option (List ℕ)) (failed : Bool) (f : Followed W w) → IsFollowed r old mid f (IsShort r left f) → (fault : Fault) → IsFrameUnread left rest failed fault
-      → (fault ≡ Frame frame_fault.Io → MayFail old) → IsUnread r old mid f fault
+      → (fault ≡ Frame frame_fault.Io → MayFail old (Reading r.session.now)) → IsUnread r old mid f fault
   cut mid left rest failed f is fault why fails = go fault why fails
     where
       here : IsFollowed r old mid f (HasHeardSome r left)
       here = some_heard mid left f is
 
-      frame_cut : (e : FrameFault) → IsReadFault e left rest failed → (Frame e ≡ Frame frame_fault.Io → MayFail old) → (e ≡ frame_fault.Io → MayFail old) × (left : Option (List ℕ)) × (rest : Option (List ℕ))
+      frame_cut : (e : FrameFault) → IsReadFault e left rest failed → (Frame e ≡ Frame frame_fault.Io → MayFail old (Reading r.session.now)) → (e ≡ frame_fault.Io → MayFail old (Reading r.session.now)) × (left : Option (List ℕ)) × (rest : Option (List ℕ))
           × (failed : Bool) × IsReadFault e left rest failed × IsFollowed r old mid f (HasHeardSome r left)
       frame_cut e why fails = (λ same. fails (ap Frame same), left, rest, failed, why, here)
 
-      go : (fault : Fault) → IsFrameUnread left rest failed fault → (fault ≡ Frame frame_fault.Io → MayFail old) → IsUnread r old mid f fault
+      go : (fault : Fault) → IsFrameUnread left rest failed fault → (fault ≡ Frame frame_fault.Io → MayFail old (Reading r.session.now)) → IsUnread r old mid f fault
       go Memory why fails = (left, here)
       go (Frame frame_fault.NoMemory) why fails = absurd why
       go (Frame frame_fault.Io) why fails = frame_cut frame_fault.Io why fails
@@ -376,27 +372,19 @@ module _ {W : Type 0} {w : Ghosts W} (r : FollowRequest) (old : World) where
     files_still : new.files ≡ old.files
     files_still = kept.files ∙ is.files
 
-    created_given_up : (new.created ≡ old.created) ⊎ ((new.created ≡ one_more old.created) × MayCreate old.files (Follow r))
+    created_given_up : MayHaveCreated old new (Follow r)
     created_given_up = go (has_output f.receiver) is.created
       where
-        go : (b : Bool) → IsCreatedFor r old mid b → (new.created ≡ old.created) ⊎ ((new.created ≡ one_more old.created) × MayCreate old.files (Follow r))
-        go true h = inr (kept.created ∙ h.0, h.1)
+        go : (b : Bool) → IsCreatedFor r old mid b → MayHaveCreated old new (Follow r)
+        go true h = inr ((r.output, refl, kept.created ∙ h.0), h.1)
         go false h = inl (kept.created ∙ h)
 
     pub given_up : IsMade old new (Follow r) None
     given_up = go (has_output f.receiver) is.created
       where
         go : (b : Bool) → IsCreatedFor r old mid b → IsMade old new (Follow r) None
-        go true h = (files_still, inr (kept.created ∙ h.0, h.1))
+        go true h = (files_still, inr ((r.output, refl, kept.created ∙ h.0), h.1))
         go false h = (files_still, inl (kept.created ∙ h))
-
-    pub unprinted : new.failed ≡ true → IsUnprinted old new (Follow r)
-    unprinted failed = record { failed = failed; done = go (has_output f.receiver) is.created }
-      where
-        go : (b : Bool) → IsCreatedFor r old mid b
-            → ((new.files ≡ old.files) × (new.created ≡ old.created)) ⊎ (((outcome : Outcome) × Makes old new (Follow r) outcome) ⊎ IsGivenUp old new (Follow r))
-        go true h = inr (inr (files_still, inr (kept.created ∙ h.0, h.1)))
-        go false h = inl (files_still, kept.created ∙ h)
 
     -- for this fault, behind this text
     pub stopped_behind : (text : List ℕ) → Session r old (λ bytes. IsHeardInPart r.identity (Some bytes) text) → (fault : Fault) → IsBecause old new (Follow r) text fault
@@ -412,11 +400,11 @@ module _ {W : Type 0} {w : Ghosts W} (r : FollowRequest) (old : World) where
       where
         go : (said : Bool) → AreSaid old mid is.lines said → IsUndone old new (Follow r) (stopped_by fault said)
         go true said = (is.lines, said_still r old mid new is.lines true true silent refl said, stopped_behind mid f (HasHeardSome r left) is new kept is.lines in_part fault why)
-        go false said = unprinted mid f (HasHeardSome r left) is new kept (silent.failed ∙ said)
+        go false said = record { failed = silent.failed ∙ said; done = inr (is.lines, fault, stopped_behind mid f (HasHeardSome r left) is new kept is.lines in_part fault why) }
 
   -- no more was read, and the output is given up
   module _ (mid : World) (f : Followed W w) (new : World) (kept : KeepsFiles mid new) (silent : IsSilent mid new) where
-    by_frame : (e : FrameFault) → (e ≡ frame_fault.Io → MayFail old) → (left rest : Option (List ℕ)) (failed : Bool) → IsReadFault e left rest failed → IsFollowed r old mid f (HasHeardSome r left)
+    by_frame : (e : FrameFault) → (e ≡ frame_fault.Io → MayFail old (Reading r.session.now)) → (left rest : Option (List ℕ)) (failed : Bool) → IsReadFault e left rest failed → IsFollowed r old mid f (HasHeardSome r left)
         → IsUndone old new (Follow r) (stopped_by (Frame e) f.said)
     by_frame e fails left rest failed why is = stopped_for mid f left is new kept silent (Frame e)
         (by_refused old new (Follow r) is.lines (Frame e) (left, rest, failed, why, fails, is.heard))
@@ -441,7 +429,7 @@ module _ {W : Type 0} {w : Ghosts W} (r : FollowRequest) (old : World) where
     gave_up unwritten.Writing name named (has, left, is) fault (inl none) = stopped_for mid f left is new kept silent fault (memory_because r old new is.lines fault none)
     gave_up unwritten.Writing name named (has, left, is) fault (inr (same, fails)) = stopped_for mid f left is new kept silent fault
         (subst (λ (x : Fault). IsBecause old new (Follow r) is.lines x) (sym same) (by_unmade old new (Follow r) is.lines (File name)
-        (may_fail_here mid f (HasHeardSome r left) is fails, named, kept.created ∙ (subst (λ (b : Bool). IsCreatedFor r old mid b) has is.created).0)))
+        (r.output, refl, may_fail old mid (Writing r.output.name.now) is.files is.refused fails, named, kept.created ∙ (subst (λ (b : Bool). IsCreatedFor r old mid b) has is.created).0)))
     gave_up (unwritten.Fault e) name named why fault same = subst (λ (x : Fault). IsUndone old new (Follow r) (stopped_by x f.said)) (sym same) (unread e why)
 
   -- ---- what lacks
@@ -472,23 +460,40 @@ module _ {W : Type 0} {w : Ghosts W} (r : FollowRequest) (old : World) where
     no_output (NoObject e) lack = absurd lack
 
     module _ (between : World) (kept : KeepsFiles mid between) (silent : IsSilent mid between) where
+      abbrev outcome : Outcome
+      outcome = record {
+        text = lacking.1.lines ++ line_of (answer_text (answer_value answer));
+        status = answer_status (answer_value answer);
+        output = None;
+      }
+
+      makes : (new : World) → KeepsFiles between new → Makes old new (Follow r) outcome
+      makes new then = record {
+        values = Opened (opened_of old.files r.session.now) ∷ [];
+        read = (has_opened old.files r.session.now _ how_many.1, tt);
+        gives = (
+          how_many.0,
+          lacking.1.lines,
+          answer_value answer,
+          of_opened old.files r.session.now _ how_many.1,
+          (ap (λ (t : List ℕ). lacking.1.lines ++ t) (sym (ends_with answer lacking.0 how_many.0)), refl, sym (no_output answer lacking.0)),
+        );
+        made = given_up mid f _ lacking.1 new (keeps mid between new kept then);
+      }
+
+      pub lack_unsaid : (new : World) → KeepsFiles between new → new.failed ≡ true → IsUnprinted old new (Follow r)
+      lack_unsaid new then failed = record { failed = failed; done = inl (outcome, makes new then) }
+
+      pub failed_before : f.said ≡ false → between.failed ≡ true
+      failed_before unsaid = silent.failed ∙ subst (λ (b : Bool). AreSaid old mid lacking.1.lines b) unsaid lacking.1.said
+
       pub lack_told : (new : World) (status : ℕ) (text : List ℕ) → f.said ≡ true → KeepsFiles between new → Appends between.printed new.printed text
           → text ≡ line_of (answer_text (answer_value answer)) → status ≡ answer_status (answer_value answer) → IsDone old new (Follow r) status
       lack_told new status text said then printed is done = record {
-        outcome = record { text = lacking.1.lines ++ text; status = status; output = None };
-        makes = record {
-          values = Opened (opened_of old.files r.session.now) ∷ [];
-          read = (has_opened old.files r.session.now _ how_many.1, tt);
-          gives = (
-            how_many.0,
-            lacking.1.lines,
-            answer_value answer,
-            of_opened old.files r.session.now _ how_many.1,
-            (ap (λ (t : List ℕ). lacking.1.lines ++ t) (is ∙ sym (ends_with answer lacking.0 how_many.0)), done, sym (no_output answer lacking.0)),
-          );
-          made = given_up mid f _ lacking.1 new (keeps mid between new kept then);
-        };
-        printed = then_appends old.printed between.printed new.printed lacking.1.lines text
-            (said_still r old mid between lacking.1.lines true true silent refl (subst (λ (b : Bool). AreSaid old mid lacking.1.lines b) said lacking.1.said)) printed;
-        is_status = refl;
+        outcome = outcome;
+        makes = makes new then;
+        printed = subst (λ (t : List ℕ). Appends old.printed new.printed (lacking.1.lines ++ t)) is
+            (then_appends old.printed between.printed new.printed lacking.1.lines text
+            (said_still r old mid between lacking.1.lines true true silent refl (subst (λ (b : Bool). AreSaid old mid lacking.1.lines b) said lacking.1.said)) printed);
+        is_status = done;
       }

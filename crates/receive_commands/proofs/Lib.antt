@@ -1,5 +1,4 @@
 mod Decoded
-mod HeldFrames
 mod Showed
 mod Followed
 mod Delivered

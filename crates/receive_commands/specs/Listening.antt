@@ -17,8 +17,8 @@ use Rattle.receiver.specs.declared.receiver.Progress.{Progress}
 use Rattle.receiver.specs.declared.receiver.Progress.TheVariants.{More, Complete}
 use Rattle.request.specs.declared.requests.FollowRequest.{FollowRequest}
 use Rattle.request.specs.declared.requests.Request.TheVariants.{Follow}
-use Rattle.host.specs.World.{World, Holds, MayFail, Replaces, one_more}
-use Rattle.commands.specs.Outcomes.{MayCreate}
+use Rattle.host.specs.World.{Reading, World, Holds, MayFail, Replaces}
+use Rattle.commands.specs.Outcomes.{HasAsked, MayCreate}
 use Rattle.commands.specs.Following.{IsHeard}
 use Rattle.commands.specs.declared.fault.Fault.{Fault}
 use Rattle.commands.specs.declared.fault.Fault.TheVariants.{Memory, Frame, Open}
@@ -45,7 +45,7 @@ stopped_by fault false = Unprinted
 -- the output was asked for, as it may be; or none was
 abbrev pub IsCreatedFor : FollowRequest → World → World → Bool → Type 0
 IsCreatedFor r old new true =
-    (new.created ≡ one_more old.created) × MayCreate old.files (Follow r)
+    HasAsked old new r.output × MayCreate old.files (Follow r)
 IsCreatedFor r old new false = new.created ≡ old.created
 
 -- The receiver is the identity's, its output, if it has one, was asked for, and these lines were
@@ -55,7 +55,7 @@ pub record IsFollowed {W : Type 0} {w : Ghosts W} (r : FollowRequest) (old new :
   pub sound : IsSoundIn followed.receiver.receiving.store
   pub identity : followed.receiver.receiving.identity ≡ r.identity
   pub files : new.files ≡ old.files
-  pub fallible : new.fallible ≡ old.fallible
+  pub refused : new.refused ≡ old.refused
   pub created : IsCreatedFor r old new (has_output followed.receiver)
   pub lines : List ℕ
   pub said : AreSaid old new lines followed.said
@@ -102,7 +102,8 @@ abbrev pub IsUnread : {W : Type 0} {w : Ghosts W} → FollowRequest → World �
 IsUnread r old new followed Memory =
     (left : Option (List ℕ)) × IsFollowed r old new followed (HasHeardSome r left)
 IsUnread r old new followed (Frame NoFrameMemory) = ⊥
-IsUnread r old new followed (Frame fault) = (fault ≡ Io → MayFail old)
+IsUnread r old new followed (Frame fault) =
+    (fault ≡ Io → MayFail old (Reading r.session.now))
     × (left : Option (List ℕ)) × (rest : Option (List ℕ)) × (failed : Bool)
     × IsReadFault fault left rest failed × IsFollowed r old new followed (HasHeardSome r left)
 IsUnread r old new followed fault = ⊥

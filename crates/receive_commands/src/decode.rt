@@ -2,6 +2,7 @@
 ghost use Rattle.std.specs.Prelude.{◌≡◌, ◌≤◌, ◌++◌, ℕ, Bool, List, Option, Some, true};
 ghost use Rattle.std.specs.Prelude.{IfOk, IfErr, IfSome, IsNone, OnOk};
 ghost use Rattle.host.specs.World.{World, GivesFile};
+ghost use Rattle.commands.specs.Wholes.{content_of, reliable_of};
 ghost use Rattle.file_decoder.specs.IndexedIn.{IsFileFault};
 ghost use Rattle.file_decoder.specs.PlacesOf.{ArePlacedIn, ArePlacedOf};
 ghost use Rattle.commands.specs.Inputs.{ASession, IsUnread};
@@ -15,22 +16,21 @@ ghost use Rattle.commands.specs.Doing.{HasMade, HasStopped};
 ghost use Rattle.receive_commands.specs.Decoding.{IsToldOf, IsWriteBroken};
 ghost use Rattle.commands.specs.Lines.{line_of, answer_text};
 
-use crate::held::read_frames;
 use block_recovery::DecodeFault;
 use commands::{
-    Done, Fault, Text, Told, Unwritten, Why, commit, if_unchanged, open, put_packet_fault,
-    see_unchanged,
+    Done, Fault, Text, Told, Unwritten, Whole, Why, commit, if_unchanged, open_session,
+    put_packet_fault, see_whole,
 };
 use decoder::{Answer, WriteFault};
 use file_decoder::{FileFault, FileSymbols, index_file};
 use host::Host;
 use request::DecodeRequest;
 use std::alloc::{AllocError, Global};
-use streams::{MemoryFile, ReadAt, WriteAt};
+use streams::{ReadAt, WriteAt};
 
-/// Writes the object that the identity's packets in the session give, block by block. A session is
-/// held where it comes from a pipe or a device. The output is asked for where no datagram has a
-/// fault and no block is short, and given up where the symbols turn out to be of no object.
+/// Writes the object that the identity's packets in the session give, block by block. The output is
+/// asked for if no datagram has a fault and no block is short, and given up if the symbols turn out
+/// to be of no object.
 pub fn decode<'a, H: Host>(
     alloc: Global,
     host: &mut H,
@@ -41,33 +41,20 @@ pub fn decode<'a, H: Host>(
     ensures fault { IfErr result
         (HasStopped (H.world host.old) (H.world host.new) (Decode request.now)) }
 {
-    let mut input = open(host, request.session)?;
-    match host.length_of(&input) {
-        Some(_) => decode_file(alloc, host, request, &input, Some(&input)),
-        None => {
-            let frames = read_frames(alloc, &mut input)?;
-            decode_file(
-                alloc,
-                host,
-                request,
-                &MemoryFile::new(&frames, usize::MAX),
-                None,
-            )
-        }
-    }
+    let session = open_session(alloc, host, request.session)?;
+    decode_whole(alloc, host, request, &session)
 }
 
-// Decodes a session that is read at offsets: a file, which isn't held and has to stay as it is, or
-// held frames. Where the symbols turn out to be of no object, the output is given up.
-fn decode_file<'a, 's, H: Host, F: ReadAt>(
+// Decodes a session that is read at offsets. If the symbols turn out to be of no object, the output
+// is given up.
+fn decode_whole<'a, H: Host>(
     alloc: Global,
     host: &mut H,
     request: &DecodeRequest<'a>,
-    input: &'s F,
-    source: Option<&'s H::Input>,
+    input: &Whole<H::Input>,
 ) -> Result<Done, Fault<'a>>
     requires { GivesFile (H.world host.old) request.now.session.now
-        (F.content input.now) (F.reliable input.now) }
+        (content_of H.Input.content input.now) (reliable_of H.Input.reliable input.now) }
     ensures ok { IfOk result
         (HasMade (H.world host.old) (H.world host.new) (Decode request.now)) }
     ensures fault { IfErr result
@@ -77,9 +64,7 @@ fn decode_file<'a, 's, H: Host, F: ReadAt>(
     let symbols = match index_file(alloc, input, request.identity) {
         Ok(Ok(symbols)) => symbols,
         Ok(Err(answer)) => {
-            if let Some(file) = source {
-                see_unchanged(host, session, file)?;
-            }
+            see_whole(host, session, input)?;
             return Ok(told_of(alloc, &answer)?);
         }
         Err(fault) => return Err(file_fault(session, fault)),
@@ -87,14 +72,14 @@ fn decode_file<'a, 's, H: Host, F: ReadAt>(
     let mut file = host.create_file(request.output.name, request.output.no_clobber)?;
     let written = write_object(alloc, session, input, &symbols, &mut file);
     let failure = Fault::File(request.output.name);
-    match if_unchanged(host, session, source, written) {
+    match if_unchanged(host, session, input, written) {
         Ok(None) => {
             let length = Ok(symbols.transfer_length());
             let length = commit(host, &request.output, file, length, failure)?;
             Ok(Done::counted("object", length, " bytes"))
         }
         Ok(Some(answer)) => {
-            host.give_up(file);
+            host.give_up(request.output.name, file);
             Ok(told_of(alloc, &answer)?)
         }
         Err(unwritten) => match commit(host, &request.output, file, Err(unwritten), failure) {

@@ -75,7 +75,7 @@ pub fn follow<'a, H: Host>(
     let (followed, ending) = listen(alloc, host, request, &mut frames);
     match ending {
         Ok(Ending::Full) => deliver(host, request, followed),
-        Ok(Ending::Lacks(answer)) => tell_lack(alloc, host, followed, &answer),
+        Ok(Ending::Lacks(answer)) => tell_lack(alloc, host, request, followed, &answer),
         Err(unwritten) => Err(give_up(host, request, followed, unwritten)),
     }
 }
@@ -344,7 +344,8 @@ fn keep_object<'a, H: Host>(
         → LeaveNoneShort receiver.receiving.identity taken
         → IfErr result (IsUnkeptOf receiver.receiving.identity taken) }
     ensures fault { IfErr result (λ told. IsUncreated (H.world host.old) request.now.output told
-        ⊎ IsUnwritten (H.world host.old) (File request.now.output.name) told) }
+        ⊎ IsUnwritten (H.world host.old) request.now.output
+        (File request.now.output.name) told) }
     ensures files { OnErr result ((H.world host.new).files ≡ (H.world host.old).files) }
     ensures silent { IsSilent (H.world host.old) (H.world host.new) }
     ensures created { (H.world host.new).created ≡ (H.world host.old).created }
@@ -362,15 +363,16 @@ fn keep_object<'a, H: Host>(
 fn tell_lack<'a, H: Host>(
     alloc: Global,
     host: &mut H,
+    request: &FollowRequest<'a>,
     followed: Followed<H::Output>,
     answer: &Answer,
 ) -> Result<Ended, Stop<'a>>
-    ensures ok { (r : RequestValue) (old : WorldValue)
-        → IsLacking r old (H.world host.old) followed answer.now
-        → IfOk result (λ ended. IsDone old (H.world host.new) (Follow r) ended.status) }
-    ensures fault { (r : RequestValue) (old : WorldValue)
-        → IsLacking r old (H.world host.old) followed answer.now
-        → IfErr result (IsUndone old (H.world host.new) (Follow r)) }
+    ensures ok { (old : WorldValue)
+        → IsLacking request.now old (H.world host.old) followed answer.now
+        → IfOk result (λ ended. IsDone old (H.world host.new) (Follow request.now) ended.status) }
+    ensures fault { (old : WorldValue)
+        → IsLacking request.now old (H.world host.old) followed answer.now
+        → IfErr result (IsUndone old (H.world host.new) (Follow request.now)) }
 {
     let Followed {
         receiver,
@@ -379,7 +381,7 @@ fn tell_lack<'a, H: Host>(
         contradictions: _,
     } = followed;
     if let Some(output) = receiver.into_output() {
-        host.give_up(output);
+        host.give_up(request.output.name, output);
     }
     if !said {
         return Err(Stop::Unprinted);

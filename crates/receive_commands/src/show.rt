@@ -2,6 +2,7 @@
 ghost use Rattle.std.specs.Prelude.{◌≡◌, ◌≤◌, ◌++◌, true, false, Ok, Err, IfOk, IfErr, OnOk, OnErr};
 ghost use Rattle.alc.specs.Views.{packet_of};
 ghost use Rattle.request.specs.declared.requests.Request.TheVariants.{Show};
+ghost use Rattle.std.specs.Io.KnownBytes.{Keeps};
 ghost use Rattle.host.specs.World.{KeepsFiles};
 ghost use Rattle.commands.specs.Doing.{IsUndone};
 ghost use Rattle.commands.specs.Outcomes.{IsDone};
@@ -134,7 +135,7 @@ fn print_datagram<'a, H: Host>(
 
 // Passes on what was printed, where the next datagram may be long in coming.
 fn pass_on_live<H: Host>(host: &mut H, is_live: bool) -> Result<(), Failed>
-    ensures stays { OnOk result ((H.world host.new).printed ≡ (H.world host.old).printed) }
+    ensures stays { OnOk result (Keeps (H.world host.old).printed (H.world host.new).printed) }
     ensures fails { OnErr result ((H.world host.new).failed ≡ true) }
     ensures files { KeepsFiles (H.world host.old) (H.world host.new) }
 {

@@ -1,11 +1,12 @@
 -- The line of a command by its name.
-use Rattle.std.proofs.Common.{Bool, List, ◌≡◌, Some, codes, true, false, sym, subst}
+use Rattle.std.proofs.Common.{Bool, ℕ, List, ◌≡◌, Option, Some, codes, true, false, sym, subst}
 use Rattle.clap.specs.Words.{Row, Text}
 use Rattle.std.specs.Str.{bytes_eq}
 use Rattle.request.specs.declared.requests.CommandLine.{CommandLine}
 use Rattle.request.specs.declared.requests.Request.{Request}
 use Rattle.request.specs.declared.requests.Request.TheVariants.{Check, Twin, Show, Encode, Certify, Convert, Decode, Follow, Drop, Salvage, Join}
-use Rattle.request.specs.Matching.{IsAsked, IsTold}
+use Rattle.request.specs.Arguments.{Flag, AText, ANumber, SomePlaces, SomeTexts, AFlag, MaybeText}
+use Rattle.request.specs.Matching.{IsAsked, IsFlagGiven, IsGiven, IsTold}
 use Rattle.request.specs.Requests.{TellsPlaces, command_of}
 
 -- it is the line of this name, too, that another name for it asks for
@@ -35,3 +36,12 @@ tells_at rows word line made is asked other = subst (λ l. TellsPlaces l.request
 -- a command of this name was told
 pub told_as : (rows : List Row) (name word : Text) → name ≡ word → IsTold (Some (name, rows)) → IsTold (Some (word, rows))
 told_as rows name word named told = subst (λ n. IsTold (Some (n, rows))) named told
+
+-- a flag that has a value was given or not
+pub flag_given : (rows : List Row) (name : Text) (letter : Option ℕ) → IsGiven rows (Flag name letter) → IsFlagGiven name rows
+flag_given rows name letter (AFlag given, is) = (given, is)
+flag_given rows name letter (AText text, is) = absurd is
+flag_given rows name letter (ANumber n, is) = absurd is
+flag_given rows name letter (SomePlaces ranges, is) = absurd is
+flag_given rows name letter (SomeTexts texts, is) = absurd is
+flag_given rows name letter (MaybeText text, is) = absurd is

@@ -83,7 +83,7 @@ command_added xs i d old parser sub new so_far added is lt =
 -- ---- the table's commands
 
 abbrev pub no_commands : App
-no_commands = record { top = record (new_shape (codes "alcrs")) { subcommand_required = true; has_version = true }; subs = [] }
+no_commands = record { top = record (new_shape (codes "alcrs")) { subcommand_required = true; arg_required_else_help = true; has_version = true }; subs = [] }
 
 abbrev no_words : Bor (List (Bor Text))
 no_words = record { ref_ptr = (0, 0); now = [] }

@@ -153,7 +153,7 @@ option_missing : fault_of grammar (encode []) ≡ kind.MissingRequiredArgument �
 unfolding clap_on_literals
 option_missing = refl
 
-no_command : fault_of grammar (codes "alcrs" ∷ []) ≡ kind.MissingSubcommand ∷ []
+no_command : fault_of grammar (codes "alcrs" ∷ []) ≡ kind.DisplayHelpOnMissingArgumentOrSubcommand ∷ []
 unfolding clap_on_literals
 no_command = refl
 

@@ -24,6 +24,11 @@ abbrev pub size_arguments : List Argument
 size_arguments = Number (codes "symbol") 1 65475 None ∷ Number (codes "block") 1 255 None
     ∷ Number (codes "max") 1 255 None ∷ []
 
+-- the fewest losses that a session is to bear
+abbrev pub losses : List Argument
+losses = Number (codes "margin") 0 4294967295 (Some (codes "0"))
+    ∷ Number (codes "burst") 0 4294967295 (Some (codes "0")) ∷ []
+
 -- without the sentences on standard error
 abbrev pub quiet : Argument
 quiet = Flag (codes "quiet") (Some 113)
@@ -45,7 +50,7 @@ commands orders =
     ∷ writing "certify" (file "OBJECT" ∷ file "OUT" ∷ identifiers ++ size_arguments)
     ∷ writing "convert" (file "IN" ∷ file "OUT" ∷ identifiers)
     ∷ writing "check" (file "SESSION" ∷ file "OBJECT" ∷ file "CERT" ∷ identifiers
-    ++ FileOption (codes "picture") ∷ Flag (codes "summary") None ∷ [])
+    ++ FileOption (codes "picture") ∷ Flag (codes "summary") None ∷ losses)
     ∷ writing "drop" (file "SESSION" ∷ file "OUT" ∷ Places (codes "PLACE")
     ∷ FileOption (codes "places") ∷ [])
     ∷ writing "salvage" (file "SESSION" ∷ file "OUT" ∷ [])
@@ -55,13 +60,14 @@ commands orders =
     ∷ writing "twin" (file "SESSION" ∷ file "OBJECT" ∷ file "CERT" ∷ file "OUT" ∷ identifiers)
     ∷ command "show" (file "SESSION" ∷ Flag (codes "summary") None ∷ quiet ∷ []) ∷ []
 
--- `alcrs`, with one of its commands, or with `--version`
+-- `alcrs`, with one of its commands, or with `--version`; alone it is refused with its help
 abbrev pub grammar_of : Bor (List (Bor Text)) → App
 grammar_of orders = record {
   top = record (new_shape (codes "alcrs")) {
     is_leaf = false;
     has_version = true;
     subcommand_required = true;
+    arg_required_else_help = true;
   };
   subs = map (λ told. record (new_shape told.0) { rules = map rule_for told.1 }) (commands orders);
 }

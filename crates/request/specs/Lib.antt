@@ -5,6 +5,7 @@ pub mod PlaceSteps
 pub mod Arguments
 pub mod Grammar
 pub mod Requests
+pub mod Outputs
 pub mod Usages
 pub mod Building
 pub mod Matching

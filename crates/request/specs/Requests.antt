@@ -58,7 +58,7 @@ command_of (Convert r) =
 command_of (Check r) =
     command "check" (path r.session ∷ path r.object ∷ path r.certificate ∷ whose r.identity
     ++ MaybeText (option_map (λ name. name.now) r.picture) ∷ AFlag r.summary
-    ∷ AFlag r.no_clobber ∷ [])
+    ∷ ANumber r.margin ∷ ANumber r.burst ∷ AFlag r.no_clobber ∷ [])
 command_of (Drop r) = writing "drop" (path r.session ∷ path r.output.name
     ∷ SomePlaces r.places.items ∷ MaybeText (option_map (λ name. name.now) r.places_file) ∷ [])
     r.output

@@ -77,7 +77,7 @@ enum Argument<'a> {
 
 const SESSION: Argument<'static> = Argument::File {
     name: "SESSION",
-    help: "The session file: each datagram behind its length in two bytes",
+    help: "The session file: each datagram after its length in two bytes",
 };
 
 const CARRIED_OBJECT: Argument<'static> = Argument::File {
@@ -162,6 +162,24 @@ const SUMMARY: Argument<'static> = Argument::Flag {
     help: "Prints few lines at a yes: the weakest block, not all blocks",
 };
 
+const MARGIN: Argument<'static> = Argument::Number(NumberOption {
+    name: "margin",
+    value_name: "N",
+    help: "Ends with status 3 at a yes if fewer than N datagrams may be missed",
+    least: 0,
+    most: 4_294_967_295,
+    default: Some("0"),
+});
+
+const BURST: Argument<'static> = Argument::Number(NumberOption {
+    name: "burst",
+    value_name: "N",
+    help: "Ends with status 3 at a yes if fewer than N neighbouring datagrams may be missed",
+    least: 0,
+    most: 4_294_967_295,
+    default: Some("0"),
+});
+
 const SHOWN_SUMMARY: Argument<'static> = Argument::Flag {
     name: "summary",
     short: None,
@@ -171,7 +189,7 @@ const SHOWN_SUMMARY: Argument<'static> = Argument::Flag {
 const QUIET: Argument<'static> = Argument::Flag {
     name: "quiet",
     short: Some('q'),
-    help: "Says no sentence on standard error",
+    help: "Leaves out the sentences on standard error",
 };
 
 const NO_CLOBBER: Argument<'static> = Argument::Flag {
@@ -270,6 +288,8 @@ const OUTLINES: [Outline<'static>; 11] = [
             TOI,
             PICTURE,
             SUMMARY,
+            MARGIN,
+            BURST,
             NO_CLOBBER,
             QUIET,
         ],
@@ -333,7 +353,7 @@ const OUTLINES: [Outline<'static>; 11] = [
     },
     Outline {
         name: "twin",
-        about: "Writes another object that fits the datagrams, where a block has too few symbols",
+        about: "Writes another object that fits the datagrams, if a block has too few symbols",
         after_help: help::TWIN,
         arguments: &[
             SESSION,
@@ -477,6 +497,7 @@ pub(crate) fn grammar<'a>(alloc: Global) -> Result<Command<'a>, AllocError>
         .version(VERSION)
         .about(ABOUT)
         .after_long_help(help::ALCRS)
-        .subcommand_required(true);
+        .subcommand_required(true)
+        .arg_required_else_help(true);
     with_commands(alloc, parser, &OUTLINES)
 }

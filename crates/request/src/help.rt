@@ -3,14 +3,17 @@
 //! the README's walk.
 
 pub(crate) const ALCRS: &str =
-    "Statuses: 0 done or yes, 1 no or a fault, 2 the command line is refused, 3 too little came.
+    "Statuses: 0 done or yes, 1 no or a fault, 2 the command line is refused, 3 too little came, or
+`check` found less to spare than was asked for.
+- as an input is standard input. - as OUT is standard output: the lines go to standard error then.
 A sentence on standard error may tell the cause. --quiet leaves it out.
 `alcrs COMMAND --help` tells what a command prints. A command that fails prints `fault REASON`.
 
 Example: alcrs check bulletin.session bulletin.txt bulletin.rsc --tsi 7 --toi 1";
 
 pub(crate) const ENCODE: &str = "Prints `encoded D datagrams`.
-OBJECT comes first: a file that is there under the second name is replaced, unless -n is given.
+OBJECT comes first: a file that is there under the second name is replaced, unless it is OBJECT or
+-n is given.
 The FTI is the object's length, --symbol, --block and --max.
 --order blocks sends block after block, --order rounds one symbol of each block in turn.
 A datagram with the FTI has 32 bytes before its symbol, and one without it 20.
@@ -22,7 +25,8 @@ Example: alcrs encode note.txt sparse.session --tsi 7 --toi 2 --symbol 8 --block
            --fti-every 4";
 
 pub(crate) const CERTIFY: &str = "Prints `certified N blocks`.
-OBJECT comes first: a file that is there under the second name is replaced, unless -n is given.
+OBJECT comes first: a file that is there under the second name is replaced, unless it is OBJECT or
+-n is given.
 Statuses: 0 done, 1 a fault, 2 the command line is refused.
 
 Example: alcrs certify bulletin.txt bulletin.rsc --tsi 7 --toi 1 --symbol 250 --block 32 --max 40";
@@ -51,7 +55,8 @@ With --summary it prints `yes` and these lines:
   kill block B                   some M + 1 datagrams, missed together, leave block B short
   burst N place P block B        N + 1 neighbours, missed from place P on, leave block B short
 `carriers` in place of `block B` says that no carrier is left.
-Statuses: 0 yes, 1 no or a fault, 2 the command line is refused.
+Statuses: 0 yes, 1 no or a fault, 2 the command line is refused, 3 yes, but the session bears fewer
+losses than --margin or --burst asks for.
 
 Example: alcrs check bulletin.session bulletin.txt bulletin.rsc --tsi 7 --toi 1";
 
@@ -59,7 +64,7 @@ pub(crate) const DROP: &str =
     "PLACE is N, or a range N-M with N at most M: N, M and all places between, 0 to 4294967295.
 FILE has places, written as PLACE is, with white space between them. It may be a pipe.
 A place that is named twice counts once. A PLACE or --places has to be given.
-The places come last: where OUT is left out, the first PLACE is taken for OUT.
+The places come last: if OUT is left out, the first PLACE is taken for OUT.
 Prints `kept D datagrams`.
 Statuses: 0 done, 1 a fault, 2 the command line is refused.
 

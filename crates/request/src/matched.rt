@@ -1,12 +1,13 @@
 //! The line of what the grammar matched. The grammar lets no line through that lacks a value, so
 //! each is there, but for places, which are read here.
-ghost use Rattle.std.specs.Prelude.{◌≡◌, ◌≤◌, Some, true, IfOk, IfErr, codes, is_some, map};
+ghost use Rattle.std.specs.Prelude.{◌≡◌, ◌≤◌, ◌∷◌, [], Some, true, IfOk, IfErr, codes, is_some};
+ghost use Rattle.std.specs.Prelude.{map};
 ghost use Rattle.std.specs.Prelude.{option_map};
 ghost use Rattle.std.specs.List.{AllZip};
 ghost use Rattle.clap.specs.Words.{first_of, one_of, subcommand_rows_of};
-ghost use Rattle.request.specs.Arguments.{HasValue, Files as files_named, SomeTexts, flag_word};
-ghost use Rattle.request.specs.Arguments.{given_texts};
-ghost use Rattle.request.specs.Grammar.{identifiers, size_arguments};
+ghost use Rattle.request.specs.Arguments.{ANumber, HasValue, Files as files_named, SomeTexts};
+ghost use Rattle.request.specs.Arguments.{flag_word, given_texts};
+ghost use Rattle.request.specs.Grammar.{identifiers, losses, size_arguments};
 ghost use Rattle.request.specs.Narrow.{IsNarrow};
 ghost use Rattle.request.specs.Places.{AreRanges};
 ghost use Rattle.request.specs.Requests.{whose, size_values, TellsPlaces};
@@ -76,6 +77,16 @@ fn sizes(matches: &ArgMatches<'_>) -> Sizes
         block: number::<u8>(matches, "block"),
         max_n: number::<u8>(matches, "max"),
     }
+}
+
+// How many losses are to be borne: the margin and the burst.
+fn losses(matches: &ArgMatches<'_>) -> (u32, u32)
+    requires { AreGiven (rows_in matches.now) losses }
+    ensures { AllZip (HasValue (rows_in matches.now)) losses
+        (ANumber result.0 ∷ ANumber result.1 ∷ []) }
+{
+    let margin = number::<u32>(matches, "margin");
+    (margin, number::<u32>(matches, "burst"))
 }
 
 // In which order the encoding symbols are sent.
@@ -216,6 +227,7 @@ fn check_line<'a>(matches: &ArgMatches<'a>) -> CommandLine<'a>
     requires { IsTold (Some (codes "check", rows_in matches.now)) }
     ensures { IsAsked (codes "check") (rows_in matches.now) result }
 {
+    let (margin, burst) = losses(matches);
     line(
         matches,
         Request::Check(CheckRequest {
@@ -225,6 +237,8 @@ fn check_line<'a>(matches: &ArgMatches<'a>) -> CommandLine<'a>
             identity: identity(matches),
             picture: given_text(matches, "picture"),
             summary: flag(matches, "summary"),
+            margin,
+            burst,
             no_clobber: flag(matches, "no-clobber"),
         }),
     )

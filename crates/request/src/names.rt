@@ -1,5 +1,8 @@
 //! What a request names.
-use crate::requests::Request;
+ghost use Rattle.std.specs.Prelude.{◌≡◌};
+ghost use Rattle.request.specs.Outputs.{output_of};
+
+use crate::requests::{Output, Request};
 use reception::Identity;
 
 impl<'a> Request<'a> {
@@ -35,6 +38,31 @@ impl<'a> Request<'a> {
             Request::Twin(request) => Some(request.certificate),
             Request::Convert(request) => Some(request.certificate),
             _ => None,
+        }
+    }
+
+    /// The file that it writes.
+    pub fn output(&self) -> Option<Output<'a>>
+        ensures { result ≡ output_of self.now }
+    {
+        match self {
+            Request::Check(request) => {
+                let name = request.picture?;
+                Some(Output {
+                    name,
+                    no_clobber: request.no_clobber,
+                })
+            }
+            Request::Show(_) => None,
+            Request::Twin(request) => Some(request.output),
+            Request::Encode(request) => Some(request.output),
+            Request::Certify(request) => Some(request.output),
+            Request::Convert(request) => Some(request.output),
+            Request::Decode(request) => Some(request.output),
+            Request::Follow(request) => Some(request.output),
+            Request::Drop(request) => Some(request.output),
+            Request::Salvage(request) => Some(request.output),
+            Request::Join(request) => Some(request.output),
         }
     }
 

@@ -43,8 +43,9 @@ pub struct Output<'a> {
     pub no_clobber: bool,
 }
 
-/// Is the certificate one of the object and of the session's packets with this identity? With a
-/// picture, draw what may be missed. With a summary, print few lines at a yes.
+/// Is the certificate one of the object and of the session's packets with this identity, and may so
+/// many datagrams be missed? With a picture, draw what may be missed. With a summary, print few
+/// lines at a yes.
 #[derive(Drop)]
 pub struct CheckRequest<'a> {
     pub session: &'a str,
@@ -54,6 +55,10 @@ pub struct CheckRequest<'a> {
     pub picture: Option<&'a str>,
     /// Whether a yes is told in few lines, without one for each block.
     pub summary: bool,
+    /// At least so many datagrams are to be such that any of them may be missed.
+    pub margin: u32,
+    /// At least so many neighbours are to be.
+    pub burst: u32,
     /// Whether a file that is there under the picture's name stays.
     pub no_clobber: bool,
     ghost narrow: { IsNarrow identity },

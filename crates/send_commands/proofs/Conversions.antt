@@ -7,7 +7,7 @@ use Rattle.certificate.specs.declared.certificate.CertFault.{CertFault}
 use Rattle.certificate.specs.declared.certificate.CertFault.TheVariants.{Magic, Fti as WrongFti, Size, Io, NoMemory, OtherIdentity}
 use Rattle.request.specs.declared.requests.ConvertRequest.{ConvertRequest}
 use Rattle.request.specs.declared.requests.Request.TheVariants.{Convert}
-use Rattle.host.specs.World.{Files, World, MayFail, Holds, GivesFile}
+use Rattle.host.specs.World.{Files, World, MayFail, Reading, Holds, GivesFile}
 use Rattle.commands.specs.Inputs.{ACertificate, AStream, Polynomials, Opened, HasValue}
 use Rattle.commands.specs.Outcomes.{IsBecause}
 use Rattle.send_commands.specs.Converted.{IsUnconverted}
@@ -35,7 +35,7 @@ holds_left (Some files) name left P (bytes, there, is) h = (bytes, there, subst 
 
 -- why it isn't converted
 pub unconverted : (old new : World) (r : ConvertRequest) (left : Option (List ℕ)) (e : CertFault) (failed : Bool) → HasValue old.files (AStream r.certificate.now) (Opened left)
-    → IsNameFault e r.identity left failed → (e ≡ Io → MayFail old) → IsBecause old new (Convert r) [] (NoCertificate e)
+    → IsNameFault e r.identity left failed → (e ≡ Io → MayFail old (Reading r.certificate.now)) → IsBecause old new (Convert r) [] (NoCertificate e)
 unconverted old new r left Io failed held why fails = by_unread old new (Convert r) [] (NoCertificate Io) (inl (fails refl))
 unconverted old new r left NoMemory failed held why fails = by_unread old new (Convert r) [] (NoCertificate NoMemory) (inl tt)
 unconverted old new r left OtherIdentity failed held why fails =

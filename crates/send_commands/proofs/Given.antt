@@ -24,7 +24,7 @@ abbrev pub line : List ℕ → List ℕ → ℕ → List ℕ
 line name of n = count_line name n of
 
 module _ (files : Option Files) (blank contents : Option (List ℕ)) (count : ℕ) where
-  pub certified : (r : CertifyRequest) (object : List ℕ) (f : Fti) → HasValue files (AnObject r.object.now) (Bytes object) → f ≡ sized r.sizes (length object)
+  certified : (r : CertifyRequest) (object : List ℕ) (f : Fti) → HasValue files (AnObject r.object.now) (Bytes object) → f ≡ sized r.sizes (length object)
       → WritesCertificate object f r.identity count blank contents → WritesGiven files (Certify r) (line (codes "certified") (codes " blocks") count) 0 blank contents
   certified r object f held sizes s = record {
     bytes = certificate_text (named_as r.identity s.0.certificate);
@@ -54,7 +54,7 @@ module _ (files : Option Files) (blank contents : Option (List ℕ)) (count : �
         gained = is.gained;
       }
 
-  pub encoded : (r : EncodeRequest) (object : List ℕ) (f : Fti) → HasValue files (AnObject r.object.now) (Bytes object) → f ≡ sized r.sending.sizes (length object)
+  encoded : (r : EncodeRequest) (object : List ℕ) (f : Fti) → HasValue files (AnObject r.object.now) (Bytes object) → f ≡ sized r.sending.sizes (length object)
       → WritesSession object f r.sending count blank contents → WritesGiven files (Encode r) (line (codes "encoded") (codes " datagrams") count) 0 blank contents
   encoded r object f held sizes s = record {
     bytes = frames s.datagrams;

@@ -21,6 +21,7 @@ use Rattle.request.specs.declared.requests.Request.TheVariants.{Join}
 use Rattle.send_commands.specs.Opening.{sessions, AreOpen, AreOpened, IsAppended, AreAppended, IsUnappendedOne, IsUnappended}
 use Rattle.send_commands.proofs.Given.{line}
 use Rattle.commands.proofs.Stopping.{WritesGiven, may_fail}
+use Rattle.host.specs.World.{Opening, Reading as ReadingFile}
 use Rattle.session.specs.Frames.{frame}
 use Rattle.session.specs.Joined.{joined}
 use Rattle.session.specs.Joining.{IsJoined}
@@ -354,14 +355,14 @@ module _ (old mid : World) (files : mid.files ≡ old.files) (silent : IsSilent 
   stops_still name fault h = subst (λ (f : Option Files). Holds f name (StopsAt fault)) files h
 
   unread_still : (name : List ℕ) (fault : Fault) → IsUnread mid (ASession name) fault → IsUnread old (ASession name) fault
-  unread_still name (Open n) (is, inl fails) = (is, inl (may_fail old mid files silent fails))
+  unread_still name (Open n) (is, inl fails) = (is, inl (may_fail old mid (Opening name) files silent.refused fails))
   unread_still name (Open n) (is, inr none) = (is, inr (subst (λ (f : Option Files). IfSome f (λ held. held name ≡ None)) files none))
-  unread_still name (File n) (is, fails) = (is, may_fail old mid files silent fails)
+  unread_still name (File n) (is, fails) = (is, may_fail old mid (ReadingFile name) files silent.refused fails)
   unread_still name Memory why = tt
   unread_still name (Frame CutLength) why = stops_still name CutLength why
   unread_still name (Frame CutDatagram) why = stops_still name CutDatagram why
   unread_still name (Frame TooLong) why = stops_still name TooLong why
-  unread_still name (Frame Io) why = may_fail old mid files silent why
+  unread_still name (Frame Io) why = may_fail old mid (ReadingFile name) files silent.refused why
   unread_still name (Frame NoMemory) why = tt
   unread_still name (Frame (NoSuchPlace place)) why = absurd why
   unread_still name (Certificate e) why = absurd why

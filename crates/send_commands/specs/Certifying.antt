@@ -14,14 +14,9 @@ abbrev pub WritesCertificate : List ℕ → Fti → Identity → ℕ → Option 
 WritesCertificate object f who count old new =
     IsCertifiedTo object f who old new × (count ≡ block_count f)
 
--- writing has failed, or there is no memory
-abbrev pub IsUncertified : Unwritten → Type 0
-IsUncertified Writing = ⊤
-IsUncertified (Fault Memory) = ⊤
-IsUncertified (Fault fault) = ⊥
-
 -- writing has failed, or there is no memory, or the object that is read is broken
-abbrev pub IsUncertifiedFrom : Fti → Option (List ℕ) → Bool → List ℕ → Unwritten → Type 0
-IsUncertifiedFrom f left sound name (Fault (File read)) =
-    IsObjectBroken f left sound name (File read)
-IsUncertifiedFrom f left sound name unwritten = IsUncertified unwritten
+abbrev pub IsUncertified : Fti → Option (List ℕ) → Bool → List ℕ → Unwritten → Type 0
+IsUncertified f left sound name Writing = ⊤
+IsUncertified f left sound name (Fault Memory) = ⊤
+IsUncertified f left sound name (Fault (File read)) = IsObjectBroken f left sound name (File read)
+IsUncertified f left sound name (Fault fault) = ⊥

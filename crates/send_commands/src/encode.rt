@@ -1,20 +1,20 @@
 //! The command `encode`.
-ghost use Rattle.std.specs.Prelude.{◌≡◌, true, length, IfOk, IfErr};
+ghost use Rattle.std.specs.Prelude.{◌≡◌, true, codes, length, IfOk, IfErr};
 ghost use Rattle.request.specs.declared.requests.Request.TheVariants.{Encode};
 ghost use Rattle.host.specs.World.{GivesFile, LeavesBytes};
 ghost use Rattle.commands.specs.Commands.{sized};
-ghost use Rattle.commands.specs.Doing.{HasMade, HasStopped};
-ghost use Rattle.commands.specs.Inputs.{AnObject, Bytes, HasValue};
+ghost use Rattle.commands.specs.Doing.{HasMade, HasStopped, text_of};
+ghost use Rattle.commands.specs.Lines.{count_line};
 ghost use Rattle.encoder.specs.ObjectRead.{ReadsObject};
 ghost use Rattle.send_commands.specs.Sending.{WritesSession, IsUnsent, IsUnsentFrom, where_empty};
 
-use commands::{Done, Fault, Unwritten, commit, fti_of, open, read_rest};
+use commands::{Done, Fault, Told, Unwritten, Why, commit, fti_of, open, read_rest};
 use encoder::{SendFault, SendFromFault};
 use host::Host;
 use lists::are_bytes;
 use partition::{Fti, Order};
 use request::{EncodeRequest, Sending};
-use session::{Read, Write};
+use session::{Pieces, Read, Write};
 use std::alloc::Global;
 use streams::WriteAt;
 
@@ -39,22 +39,23 @@ pub fn encode<'a, H: Host>(
         None => {
             let object = read_rest(alloc, &mut input, request.object)?;
             let fti = fti_of(&request.sending.sizes, object.len() as u64)?;
-            encode_held(alloc, host, object.as_slice(), &fti, request)
+            let mut held = Pieces::new(object.as_slice(), usize::MAX);
+            encode_read(alloc, host, &mut held, &fti, request)
         }
     }
 }
 
 // Writes the session of an object of this length that is read.
-fn encode_read<'a, H: Host>(
+fn encode_read<'a, R: Read, H: Host>(
     alloc: Global,
     host: &mut H,
-    input: &mut H::Input,
+    input: &mut R,
     fti: &Fti,
     request: &EncodeRequest<'a>,
 ) -> Result<Done, Fault<'a>>
     requires opened { GivesFile (H.world host.old) request.now.object.now
-        (H.Input.remaining input.old) (H.Input.sound input.old) }
-    requires length { LeavesBytes (H.Input.remaining input.old) fti.now.transfer_length }
+        (R.remaining input.old) (R.sound input.old) }
+    requires length { LeavesBytes (R.remaining input.old) fti.now.transfer_length }
     requires sizes { fti.now ≡ sized request.now.sending.sizes fti.now.transfer_length }
     ensures ok { IfOk result
         (HasMade (H.world host.old) (H.world host.new) (Encode request.now)) }
@@ -65,7 +66,27 @@ fn encode_read<'a, H: Host>(
     let sent = send_read(alloc, input, fti, request, &mut file);
     let failure = Fault::Send(SendFault::Io);
     let count = commit(host, &request.output, file, sent, failure)?;
-    Ok(Done::counted("encoded", count, " datagrams"))
+    Ok(sent_of(count, fti))
+}
+
+// So many datagrams were sent of an object with this FTI. The last block has the fewest repair
+// symbols, as it has the fewest source symbols.
+fn sent_of(count: u64, fti: &Fti) -> Done
+    ensures told { text_of result.told
+        ≡ count_line (codes "encoded") count (codes " datagrams") }
+    ensures status { result.status ≡ 0 }
+{
+    let last = fti.block_count() - 1;
+    let why = if fti.n(last) == fti.k(last) {
+        Why::Unprotected
+    } else {
+        Why::Plain
+    };
+    Done {
+        told: Told::Count("encoded", count, " datagrams"),
+        status: 0,
+        why,
+    }
 }
 
 // Sends an object that is read: by blocks as they come, or in rounds by groups of blocks, where the
@@ -140,29 +161,6 @@ fn send_whole<'a, R: Read, W: Write>(
     }
     are_bytes(bytes);
     send_held(alloc, bytes, fti, &request.sending, writer)
-}
-
-// Writes the session of an object of these bytes.
-fn encode_held<'a, H: Host>(
-    alloc: Global,
-    host: &mut H,
-    object: &[u8],
-    fti: &Fti,
-    request: &EncodeRequest<'a>,
-) -> Result<Done, Fault<'a>>
-    requires held { HasValue (H.world host.old).files (AnObject request.now.object.now)
-        (Bytes object.now) }
-    requires sizes { fti.now ≡ sized request.now.sending.sizes (length object.now) }
-    ensures ok { IfOk result
-        (HasMade (H.world host.old) (H.world host.new) (Encode request.now)) }
-    ensures fault { IfErr result
-        (HasStopped (H.world host.old) (H.world host.new) (Encode request.now)) }
-{
-    let mut file = host.create_file(request.output.name, request.output.no_clobber)?;
-    let sent = send_held(alloc, object, fti, &request.sending, &mut file);
-    let failure = Fault::Send(SendFault::Io);
-    let count = commit(host, &request.output, file, sent, failure)?;
-    Ok(Done::counted("encoded", count, " datagrams"))
 }
 
 fn send_held<'a, W: Write>(

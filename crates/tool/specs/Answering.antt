@@ -1,5 +1,6 @@
 -- The answer to a command line.
-use Rattle.std.specs.Prelude.{◌≡◌, ◌⊎◌, ℕ, Bool, true, List, Option, Result, Ok, Err, codes, map}
+use Rattle.std.specs.Prelude.{◌≡◌, ◌<◌, ◌⊎◌, ℕ, Bool, true, List, Option, Result, Ok, Err}
+use Rattle.std.specs.Prelude.{codes, length, map}
 use Rattle.std.specs.Borrow.{Bor}
 use Rattle.std.specs.Io.KnownBytes.{Appends}
 use Rattle.request.specs.Grammar.{IsOrders}
@@ -19,9 +20,9 @@ pub record Errors : Type 0 where
 abbrev pub errors_of : Option (List ℕ) → Option (List ℕ) → Bool → Errors
 errors_of before after failed = record { before = before; after = after; failed = failed }
 
--- some text was written
+-- some text was written, which isn't empty
 abbrev pub AppendsText : Option (List ℕ) → Option (List ℕ) → Type 0
-AppendsText before after = (text : List ℕ) × Appends before after text
+AppendsText before after = (text : List ℕ) × (0 < length text) × Appends before after text
 
 -- nothing was written there
 abbrev pub HasNoErrors : Errors → Type 0

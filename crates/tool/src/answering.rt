@@ -1,5 +1,5 @@
 //! The answer to a command line.
-ghost use Rattle.std.specs.Prelude.{◌≡◌, ◌⊎◌, true, codes, OnOk, OnErr};
+ghost use Rattle.std.specs.Prelude.{◌≡◌, ◌<◌, ◌⊎◌, true, codes, length, OnOk, OnErr};
 ghost use Rattle.std.specs.Io.KnownBytes.{Appends};
 ghost use Rattle.host.specs.World.{KeepsFiles};
 ghost use Rattle.tool.specs.Answering.{IsAnswer, IsOutcomeOf, Explains, IsToldRefused, errors_of};
@@ -58,7 +58,7 @@ fn explain<H: Host, E: Write>(alloc: Global, usage: &Usage<'_>, host: &mut H, er
 {
     match usage {
         Usage::Help(error) => match error.to_string(alloc) {
-            Ok(text) => match host.print(text.as_bytes()) {
+            Ok(text) => match host.print(some_text(text.as_str()).as_bytes()) {
                 Ok(()) => 0,
                 Err(Failed) => 1,
             },
@@ -67,6 +67,17 @@ fn explain<H: Host, E: Write>(alloc: Global, usage: &Usage<'_>, host: &mut H, er
         Usage::Line(error) => tell_refusal(error.to_string(alloc), host, err),
         Usage::Places(refusal) => tell_refusal(refusal.to_string(alloc), host, err),
         Usage::NoMemory => refuse(host),
+    }
+}
+
+// This text, or another in place of none, as nothing is promised of texts of clap.
+fn some_text<'t>(text: &'t str) -> &'t str
+    ensures { 0 < length result.now }
+{
+    if text.is_empty() {
+        "error: the command line is none that alcrs takes\n"
+    } else {
+        text
     }
 }
 
@@ -82,7 +93,7 @@ fn tell_refusal<H: Host, E: Write>(
 {
     match text {
         Ok(text) => {
-            let _ = write_all(err, text.as_bytes());
+            let _ = write_all(err, some_text(text.as_str()).as_bytes());
             REFUSED
         }
         Err(_) => refuse(host),

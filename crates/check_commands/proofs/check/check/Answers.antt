@@ -19,7 +19,7 @@ returns-in_err-write_output-in-Some-clause-fault g c =
     let fault = c.in_err-write_output-in-Some.field-0.0 in
     passed_on c.from_residual-in_err-write_output-in-Some.result fault _ c.from_residual-in_err-write_output-in-Some.ensures.1
     (unkept w new (Check r) (output_named r.no_clobber drawn.name) is c.in_err-write_output-in-Some.ensures.files c.write_output.ensures.silent
-    (may_draw w new r done drawn tells) (may_draw w new r done drawn tells) _ fault (λ may more. (may, ap (option_map (λ (o : Output). o.name.now)) is, more)) c.in_err-write_output-in-Some.ensures.fault)
+    (may_draw w new r done drawn tells) (may_draw w new r done drawn tells) _ fault (λ may more. (output_named r.no_clobber drawn.name, is, may, ap (option_map (λ (o : Output). o.name.now)) is, more)) c.in_err-write_output-in-Some.ensures.fault)
 
 pub returns-in_ok-write_output-in-Some-clause-ok : goal.returns-in_ok-write_output-in-Some-clause-ok
 returns-in_ok-write_output-in-Some-clause-ok g c =

@@ -27,4 +27,4 @@ returns-in_err-see_files-in-Ok-clause-fault g c =
     let fault = c.in_err-see_files-in-Ok.field-0.0 in
     passed_on c.from_residual.result fault _ c.from_residual.ensures.1
     (stopped w (Twin r) fault (by_unread w w (Twin r) [] fault
-    (changed_since w r c.requires.framed _ c.requires.object.bytes fault c.in_err-see_files-in-Ok.ensures)))
+    (changed_since w r _ _ _ _ _ _ c.requires.session c.requires.object c.requires.certificate c.requires.framed fault c.in_err-see_files-in-Ok.ensures)))

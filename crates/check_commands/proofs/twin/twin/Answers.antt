@@ -9,10 +9,3 @@ returns-in_err-opened-clause-fault g c =
     let r = c.args.request.now in
     let fault = c.in_err-opened.field-0.0 in
     passed_on c.from_residual.result fault _ c.from_residual.ensures.1 (stopped w (Twin r) fault (by_unread w w (Twin r) [] fault c.in_err-opened.ensures.fault))
-
-pub returns-in_err-inputs-clause-fault : goal.returns-in_err-inputs-clause-fault
-returns-in_err-inputs-clause-fault g c =
-    let w = g.H.Host.world c.args.host.now in
-    let r = c.args.request.now in
-    let fault = c.in_err-inputs.field-0.0 in
-    passed_on c.from_residual-in_err-inputs.result fault _ c.from_residual-in_err-inputs.ensures.1 (stopped w (Twin r) fault (by_unread w w (Twin r) [] fault c.in_err-inputs.ensures.fault))

@@ -23,7 +23,7 @@ returns-in_err-count-clause-fault g c =
     passed_on c.from_residual-in_err-count.result fault _ c.from_residual-in_err-count.ensures.1
     (uncommitted old (g.H.Host.world c.create_file.new.self) (Convert r) r.output refl c.create_file.ensures.files c.create_file.ensures.silent c.in_ok-file.ensures.created
     new c.commit.ensures.silent c.commit.ensures.created (is_there old.files r.certificate.now left input.bytes, tt) c.in_err-count.ensures.files
-    (NoCertificate Io) (λ may more. (may, refl, more)) c.convert_file-converted.result fault
+    (NoCertificate Io) (λ may more. (r.output, refl, may, refl, more)) c.convert_file-converted.result fault
     (λ n is. gives_output old.files (Convert r) (line (codes "converted") (codes " blocks") n) 0 blank contents
     (converted old.files blank contents n r left input.bytes (committed c.convert_file-converted.result n (Converts r.identity left blank contents) is c.convert_file-converted.ensures.converted)))
     (because_unconverted old new r left (g.H.Input.Read.sound c.in_ok-input.input) input c.convert_file-converted.result c.convert_file-converted.ensures.fault)

@@ -32,7 +32,7 @@ returns-in_err-count-clause-fault g c =
     passed_on c.from_residual-in_err-count.result fault _ c.from_residual-in_err-count.ensures.1
     (uncommitted old (g.H.Host.world c.create_file.new.self) (Drop r) r.output refl c.create_file.ensures.files c.create_file.ensures.silent c.in_ok-file.ensures.created
     new c.commit.ensures.silent c.commit.ensures.created (may_create old r opened held all are) c.in_err-count.ensures.files
-    (Frame Io) (λ may more. (may, refl, more)) c.thin_out-thinned.result fault
+    (Frame Io) (λ may more. (r.output, refl, may, refl, more)) c.thin_out-thinned.result fault
     (λ n is. gives_output old.files (Drop r) (line (codes "kept") (codes " datagrams") n) 0 blank contents
     (dropped old.files r all opened left blank contents n are held
     (committed c.thin_out-thinned.result n (IsThinned all opened left blank contents) is (rw c.as_slice.ensures.value at c.thin_out-thinned.ensures.thinned))))

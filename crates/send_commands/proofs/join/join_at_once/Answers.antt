@@ -27,7 +27,7 @@ returns-in_err-count-clause-fault g c =
     passed_on c.from_residual-in_err-count.result fault _ c.from_residual-in_err-count.ensures.1
     (uncommitted old (g.H.Host.world c.create_file.new.self) (Join r) r.output refl c.create_file.ensures.files c.create_file.ensures.silent c.in_ok-file.ensures.created
     new c.commit.ensures.silent c.commit.ensures.created (first_there old r.sessions.items opened unopened are) c.in_err-count.ensures.files
-    (Frame Io) (λ may more. (may, refl, more)) c.unless_unopened-joined.result fault
+    (Frame Io) (λ may more. (r.output, refl, may, refl, more)) c.unless_unopened-joined.result fault
     (λ n is. gives_output old.files (Join r) (line (codes "joined") (codes " datagrams") n) 0 blank contents
     (joined_unless old r opened left unopened blank contents n are c.join_all-joined.result c.join_all-joined.ensures.joined
     (committed c.unless_unopened-joined.result n _ is c.unless_unopened-joined.ensures.ok)))

@@ -26,7 +26,7 @@ returns-in_err-count-clause-fault g c =
     (uncommitted old (g.H.Host.world c.create_file.new.self) (Join r) r.output refl c.create_file.ensures.files c.create_file.ensures.silent c.in_ok-file.ensures.created
     new c.commit.ensures.silent c.commit.ensures.created
     (first_of_all old.files r c.args.first c.args.others.now (g.H.Input.Read.remaining c.in_ok-input.input) c.requires.sessions c.in_ok-input.ensures.input.bytes) c.in_err-count.ensures.files
-    (Frame Io) (λ may more. (may, refl, more)) c.append_each-joined.result fault
+    (Frame Io) (λ may more. (r.output, refl, may, refl, more)) c.append_each-joined.result fault
     (λ n is. gives_output old.files (Join r) (line (codes "joined") (codes " datagrams") n) 0 blank contents
     (joined_in_order old.files r inputs blank contents n all c.requires.order
     (committed c.append_each-joined.result n (AreAppended old.files inputs blank contents) is

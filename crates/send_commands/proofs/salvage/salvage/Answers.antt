@@ -24,7 +24,7 @@ returns-in_err-count-clause-fault g c =
     (uncommitted old (g.H.Host.world c.create_file.new.self) (Salvage r) r.output refl
     c.create_file.ensures.files c.create_file.ensures.silent c.in_ok-file.ensures.created new c.commit.ensures.silent c.commit.ensures.created
     (is_there old.files r.session.now opened input.bytes, tt) c.in_err-count.ensures.files
-    (Frame Io) (λ may more. (may, refl, more)) c.copy_front-status.result.written fault
+    (Frame Io) (λ may more. (r.output, refl, may, refl, more)) c.copy_front-status.result.written fault
     (λ n is. gives_output old.files (Salvage r) (line (codes "kept") (codes " datagrams") n) status blank contents
     (salvaged old.files r opened blank contents status n input.bytes
     (committed c.copy_front-status.result.written n (HasSalvaged opened blank contents status) is c.copy_front-status.ensures.salvaged)))

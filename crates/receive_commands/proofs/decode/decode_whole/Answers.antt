@@ -11,14 +11,15 @@ use Rattle.reception.specs.Answer.{IsAnswer}
 use Rattle.decoder.specs.Objects.{IsWrittenOf}
 use Rattle.file_decoder.specs.PlacesOf.{ArePlacedOf}
 use Rattle.commands.specs.Doing.{text_of}
+use Rattle.commands.specs.Wholes.{content_of, reliable_of}
 use Rattle.commands.specs.declared.fault.Fault.TheVariants.{Memory}
 use Rattle.commands.proofs.Holding.{committed}
-use Rattle.receive_commands.proofs.decode.decode_file.Goals as goal
+use Rattle.receive_commands.proofs.decode.decode_whole.Goals as goal
 
 pub returns-in-Ok-Err-clause-ok : goal.returns-in-Ok-Err-clause-ok
 returns-in-Ok-Err-clause-ok g c =
     let w = g.H.Host.world c.args.host.now in
-    let content = g.F.ReadAt.content c.args.input.now in
+    let content = content_of g.H.Input.ReadAt.content c.args.input.now in
     let is = rw c.in-Ok-Err.field-0-is at c.in-Ok-Err.ensures.indexed in
     let r = c.args.request.now in
     let held = session_held w.files r.session.now content r.identity (answer_value c.in-Ok-Err.answer) c.requires.bytes is.1 in
@@ -30,15 +31,15 @@ returns-in-Err-clause-fault g c =
     let r = c.args.request.now in
     stopped w (Decode r) c.file_fault.result
     (by_unread w w (Decode r) [] c.file_fault.result
-    (inl (c.file_fault.ensures w (g.F.ReadAt.content c.args.input.now) (g.F.ReadAt.reliable c.args.input.now) c.requires c.in-Err.ensures.fault)))
+    (inl (c.file_fault.ensures w (content_of g.H.Input.ReadAt.content c.args.input.now) (reliable_of g.H.Input.ReadAt.reliable c.args.input.now) c.requires c.in-Err.ensures.fault)))
 
-pub returns-in_err-see_unchanged-in-Ok-Err-clause-fault : goal.returns-in_err-see_unchanged-in-Ok-Err-clause-fault
-returns-in_err-see_unchanged-in-Ok-Err-clause-fault g c =
+pub returns-in_err-see_whole-in-Ok-Err-clause-fault : goal.returns-in_err-see_whole-in-Ok-Err-clause-fault
+returns-in_err-see_whole-in-Ok-Err-clause-fault g c =
     let w = g.H.Host.world c.args.host.now in
     let r = c.args.request.now in
-    let fault = c.in_err-see_unchanged-in-Ok-Err.field-0.0 in
+    let fault = c.in_err-see_whole-in-Ok-Err.field-0.0 in
     passed_on c.from_residual.result fault _ c.from_residual.ensures.1
-    (stopped w (Decode r) fault (because_changed w w r fault c.in_err-see_unchanged-in-Ok-Err.ensures))
+    (stopped w (Decode r) fault (because_changed w w r _ c.requires.fails fault c.in_err-see_whole-in-Ok-Err.ensures))
 
 pub returns-in_err-told_of-in-Ok-Some-clause-fault : goal.returns-in_err-told_of-in-Ok-Some-clause-fault
 returns-in_err-told_of-in-Ok-Some-clause-fault g c =
@@ -47,7 +48,7 @@ returns-in_err-told_of-in-Ok-Some-clause-fault g c =
     let mid = g.H.Host.world c.create_file.new.self in
     let r = c.args.request.now in
     let s = c.in-Ok-Ok.symbols in
-    let content = g.F.ReadAt.content c.args.input.now in
+    let content = content_of g.H.Input.ReadAt.content c.args.input.now in
     let given = c.requires in
     let placed = placed_of r.identity content s indexed in
     let may = may_write old.files r content s given.bytes placed in
@@ -62,7 +63,7 @@ returns-in-Ok-Some-clause-ok g c =
     let mid = g.H.Host.world c.create_file.new.self in
     let r = c.args.request.now in
     let s = c.in-Ok-Ok.symbols in
-    let content = g.F.ReadAt.content c.args.input.now in
+    let content = content_of g.H.Input.ReadAt.content c.args.input.now in
     let given = c.requires in
     let placed = placed_of r.identity content s indexed in
     let may = may_write old.files r content s given.bytes placed in
@@ -74,7 +75,7 @@ returns-in-Ok-Some-clause-ok g c =
     (subst (λ w. IfOk w (λ o. IfSome o (λ a. IsAnswer s.indexed.identity ds (answer_value a)))) (sym c.in-Ok-Some.ensures.ok) (c.write_object-written.ensures.answer ds x told are)))) in
     none_decoded old new r content (session_held old.files r.session.now content r.identity (answer_value answer) given.bytes is)
     (c.give_up.ensures.silent.printed ∙ c.create_file.ensures.silent.printed) answer is (rw c.in-Ok-Some.field-0-is at (subst (λ w. IfOk w (λ o. IfSome o IsNoObject)) (sym c.in-Ok-Some.ensures.ok) c.write_object-written.ensures.none))
-    (c.give_up.ensures.files.files ∙ c.create_file.ensures.files) (inr (c.give_up.ensures.files.created ∙ c.in_ok-file.ensures.created, may))
+    (c.give_up.ensures.files.files ∙ c.create_file.ensures.files) (inr ((r.output, refl, c.give_up.ensures.files.created ∙ c.in_ok-file.ensures.created), may))
     c.in_ok-told_of-in-Ok-Some.field-0 c.in_ok-told_of-in-Ok-Some.ensures
 
 pub returns-in-Ok-None-clause-ok : goal.returns-in-Ok-None-clause-ok
@@ -84,7 +85,7 @@ returns-in-Ok-None-clause-ok g c =
     let mid = g.H.Host.world c.create_file.new.self in
     let r = c.args.request.now in
     let s = c.in-Ok-Ok.symbols in
-    let content = g.F.ReadAt.content c.args.input.now in
+    let content = content_of g.H.Input.ReadAt.content c.args.input.now in
     let given = c.requires in
     let placed = placed_of r.identity content s indexed in
     let may = may_write old.files r content s given.bytes placed in
@@ -110,7 +111,7 @@ returns-clause-fault g c =
     let mid = g.H.Host.world c.create_file.new.self in
     let r = c.args.request.now in
     let s = c.in-Ok-Ok.symbols in
-    let content = g.F.ReadAt.content c.args.input.now in
+    let content = content_of g.H.Input.ReadAt.content c.args.input.now in
     let given = c.requires in
     let placed = placed_of r.identity content s indexed in
     let may = may_write old.files r content s given.bytes placed in
@@ -118,8 +119,8 @@ returns-clause-fault g c =
     let unwritten = c.in-Err-if_unchanged.unwritten in
     uncommitted old mid (Decode r) r.output refl c.create_file.ensures.files c.create_file.ensures.silent c.in_ok-file.ensures.created
     new c.commit-in-Err-if_unchanged.ensures.silent c.commit-in-Err-if_unchanged.ensures.created may c.in-Err-commit.ensures.files
-    _ (λ may more. (may, refl, more)) (Err unwritten) c.in-Err-commit.fault (λ n is. absurd (cc))
-    (because_not_again old mid new r c.create_file.ensures.files c.create_file.ensures.silent c.write_object-written.result (c.write_object-written.ensures.fault old given) unwritten c.in-Err-if_unchanged.ensures.fault)
+    _ (λ may more. (r.output, refl, may, refl, more)) (Err unwritten) c.in-Err-commit.fault (λ n is. absurd (cc))
+    (because_not_again old new r _ c.requires.fails c.write_object-written.result (c.write_object-written.ensures.fault old given) unwritten c.in-Err-if_unchanged.ensures.fault)
     c.in-Err-commit.ensures.fault
 
 pub returns-in_err-length-in-Ok-None-clause-fault : goal.returns-in_err-length-in-Ok-None-clause-fault
@@ -129,7 +130,7 @@ returns-in_err-length-in-Ok-None-clause-fault g c =
     let mid = g.H.Host.world c.create_file.new.self in
     let r = c.args.request.now in
     let s = c.in-Ok-Ok.symbols in
-    let content = g.F.ReadAt.content c.args.input.now in
+    let content = content_of g.H.Input.ReadAt.content c.args.input.now in
     let given = c.requires in
     let placed = placed_of r.identity content s indexed in
     let may = may_write old.files r content s given.bytes placed in
@@ -140,7 +141,7 @@ returns-in_err-length-in-Ok-None-clause-fault g c =
     let fault = c.in_err-length-in-Ok-None.field-0.0 in
     passed_on c.from_residual-in_err-length-in-Ok-None.result fault _ c.from_residual-in_err-length-in-Ok-None.ensures.1
     (uncommitted old mid (Decode r) r.output refl c.create_file.ensures.files c.create_file.ensures.silent c.in_ok-file.ensures.created
-    new c.commit.ensures.silent c.commit.ensures.created may c.in_err-length-in-Ok-None.ensures.files _ (λ may more. (may, refl, more)) (Ok length) fault
+    new c.commit.ensures.silent c.commit.ensures.created may c.in_err-length-in-Ok-None.ensures.files _ (λ may more. (r.output, refl, may, refl, more)) (Ok length) fault
     (λ n is. object_given old.files r content s blank contents length given.bytes placed
     (λ ds x told. subst (λ (who : Identity). ArePlacedOf who ds x s → IsWrittenOf who ds blank contents length) indexed.0
     (λ are. subst (λ (n : ℕ). IsWrittenOf s.indexed.identity ds blank contents n) (sym c.transfer_length.ensures)

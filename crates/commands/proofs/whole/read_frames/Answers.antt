@@ -1,8 +1,8 @@
 use Rattle.std.proofs.Common.{◌∙◌, ◌++◌, ◌∷◌, []}
 use Rattle.session.proofs.Copies.{consumes_more}
 use Rattle.session.proofs.Sessions.{short_push}
-use Rattle.receive_commands.proofs.HeldFrames.{one_more_held}
-use Rattle.receive_commands.proofs.held.read_frames.Goals as goal
+use Rattle.commands.proofs.HeldFrames.{one_more_held}
+use Rattle.commands.proofs.whole.read_frames.Goals as goal
 
 pub loop-frames-preserved : goal.loop-frames-preserved
 loop-frames-preserved g c =

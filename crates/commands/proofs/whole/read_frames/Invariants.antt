@@ -1,7 +1,7 @@
 use Rattle.std.proofs.Common.{◌≡◌, ℕ, List}
 use Rattle.std.specs.Io.KnownBytes.{Consumes}
 use Rattle.session.specs.Frames.{frames, AreShort}
-use Rattle.receive_commands.proofs.held.read_frames.Given as goal
+use Rattle.commands.proofs.whole.read_frames.Given as goal
 
 abbrev pub invariant-loop-frames : goal.invariant-loop-frames
 invariant-loop-frames g l = record {
