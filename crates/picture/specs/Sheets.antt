@@ -1,7 +1,7 @@
 -- What the text of a sheet says.
 use Rattle.std.specs.Prelude.{◌≡◌, ◌++◌, ℕ, ◌==◌, List, Option, Some, None, codes, decimal}
 use Rattle.std.specs.Prelude.{if◌then◌else◌}
-use Rattle.chart.specs.Texts.{count_text, thousands_text}
+use Rattle.chart.specs.Counts.{count_text, thousands_text}
 
 -- how many datagrams may be missed, whichever they are, and how many neighbours
 abbrev pub margin_text : ℕ → ℕ → List ℕ
