@@ -10,6 +10,7 @@ use Rattle.lists.specs.Selection.{chosen, is_among, is_run, rest_from, rest, los
 use Rattle.losses.specs.Losses.{is_enough, IsHarmless}
 use Rattle.losses.specs.Runs.{Lacks}
 use Rattle.losses.proofs.Runs.{filter_fewer}
+use Rattle.losses.proofs.Carried.{lacks_of_kill}
 use Rattle.partition.specs.Fti.{Fti, source_count}
 use Rattle.alc.specs.Reading.{Reading}
 use Rattle.reception.specs.declared.scope.Identity.{Identity}
@@ -234,7 +235,9 @@ bears_losses who f session object report decodes tells is =
                 let b = is.burst.within in
                 at (length is.readings - report.burst) (omega (arith, b)) (λ i l w. elim w [ inl k ↦ inl (omega (arith, k, past, b)) | inr k ↦ absurd (omega (arith, k, l, b)) ]))
           ] refl);
-      kill = λ places left. lacks (is_among report.kill.items) report.kill_block is.kill_block places (gone (is_among report.kill.items) places left);
+      kill = λ places left.
+          lacks (is_among report.kill.items) report.kill_block (lacks_of_kill (blocks_of who f) is.readings (report.margin + 1) report.kill.items report.kill_block is.kill)
+          places (gone (is_among report.kill.items) places left);
       one_more = λ places left.
           lacks (is_run report.burst_place (report.burst + 1)) report.burst_block is.first_burst.run.lacks places (gone (is_run report.burst_place (report.burst + 1)) places left);
     }

@@ -8,9 +8,9 @@ use Rattle.losses.specs.Losses.{Blocks, places_from, IsMargin, IsKill, IsBurst}
 use Rattle.losses.specs.Groups.{Group, group_at, places, is_at, blocks_of_groups, AreGroups}
 use Rattle.losses.proofs.Lines.{any_left, places_length}
 use Rattle.losses.proofs.Link.{is_left}
-use Rattle.losses.proofs.Transfer.{margin_same, kill_same, burst_same, lacks_same, first_burst_same, runs_same}
+use Rattle.losses.proofs.Transfer.{margin_same, kill_same, burst_same, first_burst_same, runs_same}
 use Rattle.losses.specs.declared.longest.Run.{Run}
-use Rattle.losses.specs.Runs.{Lacks, IsFirstBurst, AreRuns}
+use Rattle.losses.specs.Runs.{IsFirstBurst, AreRuns}
 use Rattle.losses.proofs.CarrierPlaces.{carriers_left, carriers_same}
 use Rattle.partition.specs.Fti.{Fti, IsValidFti, source_count}
 use Rattle.partition.proofs.Laws.{some_source}
@@ -92,7 +92,7 @@ module _ (who : Identity) (f : Fti) (valid : IsValidFti f) (rs : List Reading) (
       margin_same grouped (blocks_of who f) (places 0 (length rs)) rs (sym are.count) needed (sym (places_length 0 (length rs))) whole left
       (λ lost. sym (carriers_left (is_carrier who) rs lost)) (sym (carriers_same (is_carrier who) rs))
 
-  pub kill_told : (n : ℕ) (ps : List ℕ) → IsKill grouped (places 0 (length rs)) n ps → IsKill (blocks_of who f) rs n ps
+  pub kill_told : (n : ℕ) (ps : List ℕ) (o : Option ℕ) → IsKill grouped (places 0 (length rs)) n ps o → IsKill (blocks_of who f) rs n ps o
   kill_told =
       kill_same grouped (blocks_of who f) (places 0 (length rs)) rs (sym are.count) needed (sym (places_length 0 (length rs))) whole left
       (λ lost. sym (carriers_left (is_carrier who) rs lost)) (sym (carriers_same (is_carrier who) rs))
@@ -100,11 +100,6 @@ module _ (who : Identity) (f : Fti) (valid : IsValidFti f) (rs : List Reading) (
   pub burst_told : (m : ℕ) → IsBurst grouped (places 0 (length rs)) m → IsBurst (blocks_of who f) rs m
   burst_told =
       burst_same grouped (blocks_of who f) (places 0 (length rs)) rs (sym are.count) needed (sym (places_length 0 (length rs))) whole left
-      (λ lost. sym (carriers_left (is_carrier who) rs lost)) (sym (carriers_same (is_carrier who) rs))
-
-  pub lacks_told : (lost : ℕ → Bool) (o : Option ℕ) → Lacks grouped (rest lost (places 0 (length rs))) o → Lacks (blocks_of who f) (rest lost rs) o
-  lacks_told =
-      lacks_same grouped (blocks_of who f) (places 0 (length rs)) rs (sym are.count) needed (sym (places_length 0 (length rs))) whole left
       (λ lost. sym (carriers_left (is_carrier who) rs lost)) (sym (carriers_same (is_carrier who) rs))
 
   pub first_burst_told : (size place : ℕ) (o : Option ℕ) → IsFirstBurst grouped (places 0 (length rs)) size place o → IsFirstBurst (blocks_of who f) rs size place o

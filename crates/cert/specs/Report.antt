@@ -2,9 +2,8 @@
 use Rattle.std.specs.Prelude.{◌≡◌, ℕ, ◌+◌, ◌-◌, List, length, map, count_by}
 use Rattle.std.specs.List.{sum_by}
 use Rattle.lists.specs.Below.{below}
-use Rattle.lists.specs.Selection.{rest, is_among}
 use Rattle.losses.specs.Losses.{Blocks, IsMargin, IsKill, IsBurst}
-use Rattle.losses.specs.Runs.{Lacks, IsFirstBurst}
+use Rattle.losses.specs.Runs.{IsFirstBurst}
 use Rattle.partition.specs.Fti.{Fti, block_count, source_count}
 use Rattle.alc.specs.Reading.{Reading}
 use Rattle.cert.specs.declared.verdict.Report.{Report}
@@ -40,7 +39,6 @@ pub record IsReport (who : Identity) (datagrams : List (List ℕ)) (f : Fti)
       - sum_by (λ counts. counts.1) report.blocks.items
   pub margin : IsMargin (blocks_of who f) readings report.margin
   pub kill : IsKill (blocks_of who f) readings (report.margin + 1) report.kill.items
-  pub kill_block : Lacks (blocks_of who f) (rest (is_among report.kill.items) readings)
       report.kill_block
   pub burst : IsBurst (blocks_of who f) readings report.burst
   pub first_burst : IsFirstBurst (blocks_of who f) readings report.burst report.burst_place

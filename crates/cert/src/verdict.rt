@@ -24,15 +24,15 @@ pub struct Report {
     /// leave a block short, it leaves short the least block that one can, and of those losses is
     /// the one whose lost ESIs, rising, stand first in a dictionary; else it takes all carriers.
     pub kill: Vec<usize>,
-    /// A block that the loss of the kill leaves short. With `None` it takes all carriers.
+    /// The block whose kill it is. With `None` it takes all carriers.
     pub kill_block: Option<usize>,
     /// The greatest number of neighbouring datagrams whose loss, wherever they stand, leaves a
     /// carrier and no block short.
     pub burst: usize,
     /// The first place from which no more neighbours than the burst may be missed.
     pub burst_place: usize,
-    /// A block that one neighbour more from there leaves short. With `None` that takes all
-    /// carriers.
+    /// The first block that one neighbour more from there leaves short. With `None` that leaves no
+    /// block short, but takes all carriers.
     pub burst_block: Option<usize>,
 }
 

@@ -1,3 +1,4 @@
 mod Lines
 mod Names
-mod Putting
+pub mod Putting
+mod Units

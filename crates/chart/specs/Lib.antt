@@ -1,3 +1,4 @@
 pub mod Columns
+pub mod Counts
 pub mod Scaled
 pub mod Texts

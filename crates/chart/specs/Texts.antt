@@ -1,9 +1,10 @@
 -- What is put into the text of a chart.
 use Rattle.std.specs.Prelude.{◌≡◌, ◌++◌, ℕ, List, true, is_ok, string_bytes, codes, decimal}
-use Rattle.std.specs.Prelude.{[], ◌∷◌, ◌+◌, ◌-◌, ◌*◌, ◌%◌, ◌==◌, ◌&&◌, ◌||◌, nat_lt, nat_le}
-use Rattle.std.specs.Prelude.{length, map, filter, flat_map, encode_utf8, if◌then◌else◌}
+use Rattle.std.specs.Prelude.{[], ◌∷◌, ◌+◌, ◌-◌, ◌*◌, ◌==◌, ◌||◌, nat_lt, nat_le}
+use Rattle.std.specs.Prelude.{map, filter, flat_map, encode_utf8, if◌then◌else◌}
 use Rattle.std.specs.Char.{is_control}
 use Rattle.std.specs.List.{range_with_len}
+use Rattle.chart.specs.Counts.{thousands_text}
 use Rattle.chart.specs.Scaled.{scaled}
 use Rattle.chart.specs.declared.canvas.Canvas.{Canvas}
 use Rattle.chart.specs.declared.panel.Axis.{Axis}
@@ -14,20 +15,6 @@ use Rattle.chart.specs.declared.panel.Panel.{Panel}
 pub record Puts (old new : Canvas) (text : List ℕ) : Type 0 where
   pub had : is_ok new.outcome ≡ true → is_ok old.outcome ≡ true
   pub behind : is_ok new.outcome ≡ true → string_bytes new.text ≡ string_bytes old.text ++ text
-
--- what stands before so many digits that are left of a number: between thousands a comma
-abbrev pub comma_before : ℕ → List ℕ
-comma_before left = if nat_lt 0 left && (left % 3 == 0) then codes "," else []
-
--- a number's digits with a comma between thousands
-abbrev pub thousands_text : List ℕ → List ℕ
-thousands_text [] = []
-thousands_text (digit ∷ digits) = digit ∷ comma_before (length digits) ++ thousands_text digits
-
--- a number of things, by the name of one and of several
-abbrev pub count_text : ℕ → List ℕ → List ℕ → List ℕ
-count_text number one several =
-    thousands_text (decimal number) ++ codes " " ++ (if number == 1 then one else several)
 
 -- an attribute with a number
 abbrev pub attribute_text : List ℕ → ℕ → List ℕ

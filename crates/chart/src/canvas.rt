@@ -2,8 +2,9 @@
 ghost use Rattle.std.specs.Prelude.{◌≡◌, ◌++◌, [], IfOk, true, is_ok, string_bytes, codes};
 ghost use Rattle.std.specs.Prelude.{◌-◌, ◌||◌, nat_le, encode_utf8};
 ghost use Rattle.std.specs.Str.{chars};
-ghost use Rattle.chart.specs.Texts.{Puts, attribute_text, words_tag, comma_before, thousands_text};
-ghost use Rattle.chart.specs.Texts.{count_text, width_of, width, escaped, name_text};
+ghost use Rattle.chart.specs.Counts.{comma_before, thousands_text, count_text};
+ghost use Rattle.chart.specs.Texts.{Puts, attribute_text, words_tag, width_of, width, escaped};
+ghost use Rattle.chart.specs.Texts.{name_text};
 
 use itoa::{Buffer, Integer};
 use std::alloc::{AllocError, Global};

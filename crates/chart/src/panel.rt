@@ -1,6 +1,6 @@
 //! Where a panel stands, its bars and its horizontal lines.
-ghost use Rattle.std.specs.Prelude.{◌≡◌, ◌<◌, ◌≤◌, ◌+◌, ◌-◌, ◌*◌, ◌++◌, SomeIff, codes};
-ghost use Rattle.chart.specs.Scaled.{scaled};
+ghost use Rattle.std.specs.Prelude.{◌≡◌, ℕ, ◌<◌, ◌≤◌, ◌+◌, ◌-◌, ◌*◌, ◌++◌, SomeIff, codes};
+ghost use Rattle.chart.specs.Scaled.{scaled, units, unit_of};
 ghost use Rattle.chart.specs.Texts.{Puts, bar_text, path_tag, line_text, lines_text};
 ghost use Rattle.chart.specs.Texts.{value_text, values_text};
 
@@ -23,11 +23,14 @@ pub struct Axis {
 }
 
 impl Axis {
-    /// An axis that goes up to a value, with steps of 1, 2 or 5 times a power of ten. It ends less
-    /// than a step above the value.
+    /// An axis that goes up to a value, with steps of 1, 2 or 5 times a power of ten, the shortest
+    /// of which five reach it. It ends at the first step that does; that of 0 has one step.
     pub fn up_to(greatest: usize) -> Axis
+        ensures unit { result.unit ≡ unit_of units greatest }
+        ensures steps { (steps : ℕ) × (result.top ≡ result.unit * steps) }
         ensures reaches { greatest ≤ result.top }
         ensures near { 0 < greatest → result.top < greatest + result.unit }
+        ensures least { greatest ≡ 0 → result.top ≡ 1 }
     {
         for unit in UNITS {
             for lines in 1..=5usize {

@@ -24,11 +24,10 @@ pub record IsBlockBurst {X : Type 0} (blocks : Blocks X) (xs : List X) (m : ℕ)
   pub bears : BlocksBearRuns blocks xs m
   pub greatest : (n : ℕ) → n ≤ length xs → BlocksBearRuns blocks xs n → n ≤ m
 
-pub record IsBlockKill {X : Type 0} (blocks : Blocks X) (xs : List X) (n : ℕ) (places : List ℕ) : Type 0 where
+pub record IsBlockKill {X : Type 0} (blocks : Blocks X) (xs : List X) (n block : ℕ) (places : List ℕ) : Type 0 where
   pub rising : IsRising places
   pub count : length places ≡ n
   pub within : AllByRecursion (λ p. p < length xs) places
-  pub block : ℕ
   pub short : LeavesShort blocks xs n block (is_among places)
   pub least : (b : ℕ) (lost : ℕ → Bool) → LeavesShort blocks xs n b lost → block ≤ b
   pub first : (lost : ℕ → Bool) → LeavesShort blocks xs n block lost

@@ -1,12 +1,13 @@
 -- The carriers as one more block, which needs one symbol and has one, of which each carrier is a
 -- copy: what the blocks can lose with it is what a list can lose.
-use Rattle.std.specs.Prelude.{◌≡◌, ℕ, suc, ◌+◌, ◌<◌, ◌≤◌, Bool, true, false, ◌&&◌, ◌||◌, ◌==◌, not, nat_le, nat_lt, cond, List, [], ◌∷◌, length, filter, refl}
+use Rattle.std.specs.Prelude.{◌≡◌, ℕ, suc, ◌+◌, ◌<◌, ◌≤◌, Bool, true, false, ◌&&◌, ◌||◌, ◌==◌, not, nat_le, nat_lt, cond, List, [], ◌∷◌, length, filter, Option, Some, None, refl}
 use Rattle.std.specs.List.{list_any, AllByRecursion}
 use Rattle.std.proofs.Common.{◌∙◌, sym, ap, subst, arith, ltb-true, leb-true}
 use Rattle.std.proofs.lemmas.Bool.{lt-ltb, le-ltb, ltb-false, leb-false}
 use Rattle.lists.specs.Below.{below}
 use Rattle.lists.specs.Selection.{rest_from, rest, is_among, is_run}
-use Rattle.losses.specs.Losses.{Blocks, places_from, carrier_places, is_enough, taken_wholly, IsHarmless, IsMargin, IsBurst, IsKill, KillsBlock, LeavesShort, IsBefore}
+use Rattle.losses.specs.Losses.{Blocks, places_from, carrier_places, is_enough, taken_wholly, IsHarmless, IsMargin, IsBurst, IsKill, LeavesShort, IsBefore}
+use Rattle.losses.specs.Runs.{Lacks}
 use Rattle.losses.proofs.BlockLosses.{KeepsBlocks, IsBlockMargin, IsBlockBurst, IsBlockKill}
 use Rattle.losses.proofs.Places.{marks_places, marks_rest, marks_size, places_count, places_rise}
 use Rattle.losses.proofs.Rising.{sub_same}
@@ -102,40 +103,36 @@ module _ {X : Type 0} (blocks : Blocks X) where
         (lt-ltb b blocks.count hb)
 
     -- where a loss of so many places leaves a block short
-    kill_block : (n : ℕ) (ps : List ℕ) → IsBlockKill (carried blocks) xs n ps → (b : ℕ) (lost : ℕ → Bool) → LeavesShort blocks xs n b lost → KillsBlock blocks xs n ps
-    kill_block n ps k b lost h =
-        let low = k.least b lost (short_group n b lost h) in
-        let l = h.block in
-        let here : k.block < blocks.count = omega (arith, low, l) in
-        record {
-          block = k.block;
-          short = short_block n k.block (is_among ps) here k.short;
-          least = λ c x s. k.least c x (short_group n c x s);
-          first = λ x s before.
-              k.first x (short_group n k.block x s)
-              (subst (λ (js : List ℕ). IsBefore (taken_wholly (carried blocks) xs x k.block) js) (sym (taken_block (is_among ps) k.block here))
-              (subst (λ (js : List ℕ). IsBefore js (taken_wholly blocks xs (is_among ps) k.block)) (sym (taken_block x k.block here)) before));
-        }
+    pub kill_with_block : (n block : ℕ) (ps : List ℕ) → block < blocks.count → IsBlockKill (carried blocks) xs n block ps → IsKill blocks xs n ps (Some block)
+    kill_with_block n block ps here k = record {
+      count = k.count;
+      within = (k.rising, k.within);
+      kills = record {
+        short = short_block n block (is_among ps) here k.short;
+        least = λ c x s. k.least c x (short_group n c x s);
+        first = λ x s before.
+            k.first x (short_group n block x s)
+            (subst (λ (js : List ℕ). IsBefore (taken_wholly (carried blocks) xs x block) js) (sym (taken_block (is_among ps) block here))
+            (subst (λ (js : List ℕ). IsBefore js (taken_wholly blocks xs (is_among ps) block)) (sym (taken_block x block here)) before));
+      };
+    }
 
-    -- and where none does
-    kill_carriers : (m : ℕ) (ps : List ℕ) → IsBlockMargin (carried blocks) xs m → IsBlockKill (carried blocks) xs (m + 1) ps
-        → ((b : ℕ) (lost : ℕ → Bool) → ¬ LeavesShort blocks xs (m + 1) b lost) → ps ≡ carrier_places blocks xs
-    kill_carriers m ps margin k none =
+    all_gone : list_any blocks.is_carrier (rest (is_among (carrier_places blocks xs)) xs) ≡ false
+    all_gone =
         let g = blocks.is_carrier in
-        let hb = k.short.block in
-        let at : blocks.count ≡ k.block =
-        elim (nat_lt k.block blocks.count) as (λ v. nat_lt k.block blocks.count ≡ v → blocks.count ≡ k.block) [
-          | true ↦ λ e. absurd (none k.block (is_among ps) (short_block (m + 1) k.block (is_among ps) (ltb-true k.block blocks.count e) k.short))
-          | false ↦ λ e. (let n = ltb-false k.block blocks.count e in omega (arith, n, hb))
-        ] refl in
-        let short : is_enough (carried blocks) (rest (is_among ps) xs) blocks.count ≡ false = subst (λ (x : ℕ). is_enough (carried blocks) (rest (is_among ps) xs) x ≡ false) (sym at) k.short.short in
-        let gone : list_any g (rest (is_among ps) xs) ≡ false = sym (enough_last (rest (is_among ps) xs)) ∙ short in
+        let all = is_among (places_from g 0 xs) in
+        let left : rest all xs ≡ filter (λ x. not (g x)) xs = marks_rest g all 0 xs (marks_places g 0 xs) in
+        ap (λ (ys : List X). list_any g ys) left ∙ none_left g xs
+
+    all_taken : (m : ℕ) (ps : List ℕ) → IsBlockMargin (carried blocks) xs m → IsBlockKill (carried blocks) xs (m + 1) blocks.count ps → ps ≡ carrier_places blocks xs
+    all_taken m ps margin k =
+        let g = blocks.is_carrier in
+        let gone : list_any g (rest (is_among ps) xs) ≡ false = sym (enough_last (rest (is_among ps) xs)) ∙ k.short.short in
         let sub = all_lost g (is_among ps) 0 xs gone in
         let all = is_among (places_from g 0 xs) in
         let size = marks_size g all 0 xs (marks_places g 0 xs) in
         let long = places_count g 0 xs in
-        let left : rest all xs ≡ filter (λ x. not (g x)) xs = marks_rest g all 0 xs (marks_places g 0 xs) in
-        let dead : list_any g (rest all xs) ≡ false = ap (λ (ys : List X). list_any g ys) left ∙ none_left g xs in
+        let dead = all_gone in
         let many : m + 1 ≤ length (places_from g 0 xs) =
         elim (nat_le (length (places_from g 0 xs)) m) as (λ v. nat_le (length (places_from g 0 xs)) m ≡ v → m + 1 ≤ length (places_from g 0 xs)) [
           | true ↦ λ e.
@@ -147,10 +144,21 @@ module _ {X : Type 0} (blocks : Blocks X) where
         let n = k.count in
         sym (sub_same (places_from g 0 xs) ps (places_rise g 0 xs) k.rising sub (omega (arith, n, many)))
 
-    pub kill_with_carriers : (m : ℕ) (ps : List ℕ) → IsBlockMargin (carried blocks) xs m → IsBlockKill (carried blocks) xs (m + 1) ps → IsKill blocks xs (m + 1) ps
+    -- and where none does: the carriers' block is the last
+    pub kill_with_carriers : (m : ℕ) (ps : List ℕ) → IsBlockMargin (carried blocks) xs m → IsBlockKill (carried blocks) xs (m + 1) blocks.count ps → IsKill blocks xs (m + 1) ps None
     kill_with_carriers m ps margin k = record {
       count = k.count;
       within = (k.rising, k.within);
-      block = kill_block (m + 1) ps k;
-      carriers = kill_carriers m ps margin k;
+      kills = (
+        all_taken m ps margin k,
+        λ b lost s.
+            (let low = k.least b lost (short_group (m + 1) b lost s) in
+            let l = s.block in
+            absurd (omega (arith, low, l))),
+      );
     }
+
+    -- what a kill leaves short
+    pub lacks_of_kill : (n : ℕ) (ps : List ℕ) (o : Option ℕ) → IsKill blocks xs n ps o → Lacks blocks (rest (is_among ps) xs) o
+    lacks_of_kill n ps None k = subst (λ (qs : List ℕ). list_any blocks.is_carrier (rest (is_among qs) xs) ≡ false) (sym k.kills.0) all_gone
+    lacks_of_kill n ps (Some block) k = (k.kills.short.block, k.kills.short.short)

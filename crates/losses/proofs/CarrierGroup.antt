@@ -1,6 +1,6 @@
 -- The carriers as one group more, behind the others: what it weighs, and what the list can lose
 -- with it.
-use Rattle.std.specs.Prelude.{◌≡◌, ℕ, zero, suc, ◌+◌, ◌-◌, ◌<◌, ◌≤◌, Bool, true, false, ◌&&◌, ◌||◌, ◌==◌, nat_lt, nat_le, cond, List, [], ◌∷◌, ◌++◌, length, filter, map, count_by, take, drop, slice_index_or, refl}
+use Rattle.std.specs.Prelude.{◌≡◌, ℕ, zero, suc, ◌+◌, ◌-◌, ◌<◌, ◌≤◌, Bool, true, false, ◌&&◌, ◌||◌, ◌==◌, nat_lt, nat_le, cond, List, [], ◌∷◌, ◌++◌, length, filter, map, count_by, take, drop, slice_index_or, Some, None, refl}
 use Rattle.std.specs.List.{list_any}
 use Rattle.std.proofs.Common.{◌∙◌, sym, ap, subst, arith, length-append}
 use Rattle.std.proofs.lemmas.Bool.{lt-ltb, le-ltb, ltb-false, eqb-true, eq-eqb}
@@ -14,7 +14,7 @@ use Rattle.losses.specs.Costs.{IsWeighed, cheap_esis, cheap_places, esi_copies, 
 use Rattle.losses.specs.Losses.{IsMargin, IsBurst, IsKill, is_enough}
 use Rattle.losses.specs.Groups.{Group, no_group, group_at, places, is_at, blocks_of_groups}
 use Rattle.losses.proofs.BlockLosses.{IsBlockMargin, IsBlockBurst, IsBlockKill}
-use Rattle.losses.proofs.Carried.{carried, margin_with_carriers, burst_with_carriers, kill_with_carriers}
+use Rattle.losses.proofs.Carried.{carried, margin_with_carriers, burst_with_carriers, kill_with_block, kill_with_carriers}
 use Rattle.losses.proofs.Transfer.{block_margin_same, block_burst_same, block_kill_same}
 use Rattle.losses.proofs.Grouping.{count_cons}
 use Rattle.losses.proofs.Gathered.{last_or}
@@ -347,7 +347,7 @@ module _ (groups : List Group) (ps : List ℕ) where
     burst_to : (m : ℕ) → IsBlockBurst (blocks_of_groups (with_carriers groups ps) []) (places 0 n) m → IsBlockBurst (carried (blocks_of_groups groups ps)) (places 0 n) m
     burst_to = block_burst_same (blocks_of_groups (with_carriers groups ps) []) (carried (blocks_of_groups groups ps)) (places 0 n) (places 0 n) count_to need_to refl whole_to left_to
 
-    kill_to : (m : ℕ) (qs : List ℕ) → IsBlockKill (blocks_of_groups (with_carriers groups ps) []) (places 0 n) m qs → IsBlockKill (carried (blocks_of_groups groups ps)) (places 0 n) m qs
+    kill_to : (m at : ℕ) (qs : List ℕ) → IsBlockKill (blocks_of_groups (with_carriers groups ps) []) (places 0 n) m at qs → IsBlockKill (carried (blocks_of_groups groups ps)) (places 0 n) m at qs
     kill_to = block_kill_same (blocks_of_groups (with_carriers groups ps) []) (carried (blocks_of_groups groups ps)) (places 0 n) (places 0 n) count_to need_to refl whole_to left_to
 
     -- the figures where a group of this price is the least of all, the carriers' group among them
@@ -357,11 +357,17 @@ module _ (groups : List Group) (ps : List ℕ) where
       margin_of_all : IsMargin (blocks_of_groups groups ps) (places 0 n) (price - 1)
       margin_of_all = margin_with_carriers (blocks_of_groups groups ps) (places 0 n) (price - 1) (margin_to (price - 1) (margin_of_groups (with_carriers groups ps) n are_with at price t last within weighed heavy))
 
-      kill_of_all : IsKill (blocks_of_groups groups ps) (places 0 n) (price - 1 + 1) (cheap_places (group_at (with_carriers groups ps) at).members t last)
-      kill_of_all =
+      kill_of_all : IsBlockKill (carried (blocks_of_groups groups ps)) (places 0 n) (price - 1 + 1) at (cheap_places (group_at (with_carriers groups ps) at).members t last)
+      kill_of_all = kill_to (price - 1 + 1) at _ (kill_of_groups (with_carriers groups ps) n are_with at price t last within weighed heavy)
+
+      kill_of_block : at < length groups → IsKill (blocks_of_groups groups ps) (places 0 n) (price - 1 + 1) (cheap_places (group_at (with_carriers groups ps) at).members t last) (Some at)
+      kill_of_block below = kill_with_block (blocks_of_groups groups ps) (places 0 n) (price - 1 + 1) at _ below kill_of_all
+
+      kill_of_carriers : at ≡ length groups → IsKill (blocks_of_groups groups ps) (places 0 n) (price - 1 + 1) (cheap_places (group_at (with_carriers groups ps) at).members t last) None
+      kill_of_carriers same =
           kill_with_carriers (blocks_of_groups groups ps) (places 0 n) (price - 1) _
           (margin_to (price - 1) (margin_of_groups (with_carriers groups ps) n are_with at price t last within weighed heavy))
-          (kill_to (price - 1 + 1) _ (kill_of_groups (with_carriers groups ps) n are_with at price t last within weighed heavy))
+          (subst (λ (b : ℕ). IsBlockKill (carried (blocks_of_groups groups ps)) (places 0 n) (price - 1 + 1) b (cheap_places (group_at (with_carriers groups ps) at).members t last)) same kill_of_all)
 
     burst_of_all : (at gap : ℕ) → at < length (with_carriers groups ps) → IsLeastGap (group_at (with_carriers groups ps) at).members (group_at (with_carriers groups ps) at).need gap
         → ((b : ℕ) → b < length (with_carriers groups ps) → IsWideGroup (group_at (with_carriers groups ps) b) gap) → IsBurst (blocks_of_groups groups ps) (places 0 n) gap
@@ -389,8 +395,8 @@ module _ (groups : List Group) (ps : List ℕ) where
       pub margin_blocks : price ≤ length ps → IsMargin (blocks_of_groups groups ps) (places 0 n) (price - 1)
       margin_blocks few = margin_of_all at price t last here weighed_with (heavy_blocks few)
 
-      pub kill_blocks : price ≤ length ps → IsKill (blocks_of_groups groups ps) (places 0 n) (price - 1 + 1) (cheap_places (group_at groups at).members t last)
-      kill_blocks few = subst (λ (g : Group). IsKill (blocks_of_groups groups ps) (places 0 n) (price - 1 + 1) (cheap_places g.members t last)) (at_group at within) (kill_of_all at price t last here weighed_with (heavy_blocks few))
+      pub kill_blocks : price ≤ length ps → IsKill (blocks_of_groups groups ps) (places 0 n) (price - 1 + 1) (cheap_places (group_at groups at).members t last) (Some at)
+      kill_blocks few = subst (λ (g : Group). IsKill (blocks_of_groups groups ps) (places 0 n) (price - 1 + 1) (cheap_places g.members t last) (Some at)) (at_group at within) (kill_of_block at price t last here weighed_with (heavy_blocks few) within)
 
       -- the carriers' loss is the least
       heavy_carriers : length ps < price → (b : ℕ) → b < length (with_carriers groups ps) → IsHeavyGroup b (group_at (with_carriers groups ps) b) (length ps) (length groups)
@@ -402,11 +408,11 @@ module _ (groups : List Group) (ps : List ℕ) where
       pub margin_carriers : length ps < price → IsMargin (blocks_of_groups groups ps) (places 0 n) (length ps - 1)
       margin_carriers few = margin_of_all (length groups) (length ps) (length ps) 0 last_here weighed_last (heavy_carriers few)
 
-      pub kill_carriers : length ps < price → IsKill (blocks_of_groups groups ps) (places 0 n) (length ps - 1 + 1) ps
+      pub kill_carriers : length ps < price → IsKill (blocks_of_groups groups ps) (places 0 n) (length ps - 1 + 1) ps None
       kill_carriers few =
-          subst (λ (qs : List ℕ). IsKill (blocks_of_groups groups ps) (places 0 n) (length ps - 1 + 1) qs)
+          subst (λ (qs : List ℕ). IsKill (blocks_of_groups groups ps) (places 0 n) (length ps - 1 + 1) qs None)
           (ap (λ (g : Group). cheap_places g.members (length ps) 0) at_carriers ∙ carriers_cheap ps carriers.some)
-          (kill_of_all (length groups) (length ps) (length ps) 0 last_here weighed_last (heavy_carriers few))
+          (kill_of_carriers (length groups) (length ps) (length ps) 0 last_here weighed_last (heavy_carriers few) refl)
 
     module _ (burst : ℕ) (narrow : IsNarrowGroup groups (length groups) burst) (wide : (b : ℕ) → b < length groups → IsWideGroup (group_at groups b) burst) where
       wide_with : (b : ℕ) → b < length groups → IsWideGroup (group_at (with_carriers groups ps) b) burst

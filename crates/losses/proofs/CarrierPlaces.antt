@@ -1,6 +1,6 @@
 -- The carriers' places stand for the carriers: what a loss leaves of the one it leaves of the
 -- other.
-use Rattle.std.specs.Prelude.{◌≡◌, ℕ, zero, suc, ◌+◌, ◌<◌, ◌≤◌, Bool, true, false, ◌||◌, cond, List, [], ◌∷◌, length, refl}
+use Rattle.std.specs.Prelude.{◌≡◌, ℕ, ◌+◌, ◌<◌, ◌≤◌, Bool, true, false, ◌||◌, cond, List, [], ◌∷◌, length, refl}
 use Rattle.std.specs.List.{list_any}
 use Rattle.std.proofs.Common.{◌∙◌, ap, arith}
 use Rattle.lists.specs.Selection.{rest_from, is_among}
@@ -62,12 +62,3 @@ some_place g i (x ∷ xs) h =
 pub are_carriers : {X : Type 0} (g : X → Bool) (xs : List X) → list_any g xs ≡ true → AreCarriers (places_from g 0 xs) (length xs)
 are_carriers g xs h =
     carriers_told (places_from g 0 xs) (length xs) (record { some = some_place g 0 xs h; places = are_places g 0 (length xs) xs (omega arith) })
-
--- a loss leaves no place that it takes
-pub none_taken : (lost : ℕ → Bool) (i n : ℕ) → list_any lost (rest_from i lost (places i n)) ≡ false
-none_taken lost i zero = refl
-none_taken lost i (suc n) =
-    elim (lost i) as (λ v. lost i ≡ v → list_any lost (cond v (rest_from (i + 1) lost (places (i + 1) n)) (i ∷ rest_from (i + 1) lost (places (i + 1) n))) ≡ false) [
-      | true ↦ λ e. none_taken lost (i + 1) n
-      | false ↦ λ e. rw e (none_taken lost (i + 1) n)
-    ] refl

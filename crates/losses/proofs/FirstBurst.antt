@@ -5,9 +5,9 @@ use Rattle.std.proofs.lemmas.Bool.{ltb-false, eqb-true, eq-eqb}
 use Rattle.lists.specs.Selection.{rest, is_run}
 use Rattle.losses.specs.Groups.{Group, group_at, places, blocks_of_groups}
 use Rattle.losses.specs.Lightest.{IsWideGroup, AreNarrowest}
-use Rattle.losses.specs.Losses.{IsBurst}
+use Rattle.losses.specs.Losses.{IsBurst, is_enough}
 use Rattle.losses.specs.Ordered.{AreOrdered, AreOrderedCarriers}
-use Rattle.losses.specs.Runs.{Lacks, IsFirstBurst}
+use Rattle.losses.specs.Runs.{Lacks, IsEnoughBefore, IsFirstBurst}
 use Rattle.losses.specs.Starts.{AreShort, IsFirstGap}
 use Rattle.losses.specs.Windows.{IsLeastGap, IsShortWindow, place_at}
 use Rattle.losses.proofs.CarrierGroup.{span, span_fits, last_below, taken_run}
@@ -52,6 +52,7 @@ module _ (groups : List Group) where
         last_or (λ b. IsShortWindow (group_at groups b).members (group_at groups b).need x y
         → place_at (group_at groups b).members (y - 1) ≤ place_at (group_at groups b).members x + gap → place ≤ place_at (group_at groups b).members x) 0
         (λ b g. absurd (omega (arith, g))) (first.first x y) b (omega (arith, l));
+    early = λ b x y l. absurd (omega (arith, l));
   }
 
   module _ (n at place gap place2 gap2 : ℕ) (old : AreNarrowest groups n at place gap)
@@ -72,6 +73,14 @@ module _ (groups : List Group) where
           let o = old.first b x y g is (omega (arith, far, same)) in
           omega (arith, e, o)))
           (first.first x y) b l;
+      early = λ b x y l is far.
+          (let q = wide b l in
+          let low = q.low in
+          let least = q.is.least x y is in
+          let same : gap2 ≡ gap = omega (arith, low, least, far, few) in
+          let e = early same in
+          let o = old.first b x y l is (omega (arith, far, same)) in
+          omega (arith, e, o));
     }
 
     pub narrowest_same : gap ≤ gap2 → (gap2 ≡ gap → place ≤ place2) → IsLeastGap (group_at groups n).members (group_at groups n).need gap2 → AreNarrowest groups (n + 1) at place gap
@@ -89,6 +98,7 @@ module _ (groups : List Group) where
           let o = first.first x y is (omega (arith, far, same)) in
           omega (arith, e, o)))
           b l;
+      early = old.early;
     }
 
 -- ---- the groups and the carriers
@@ -135,8 +145,9 @@ module _ (groups : List Group) (carriers : List ℕ) (n : ℕ) (are : AreOrdered
           omega (arith, from, to, low, least, c, l, e)
 
       is_first : (o : Option ℕ) → AreShort groups carriers place (place + burst) o → IsBurst (blocks_of_groups groups carriers) (places 0 n) burst
+          → IsEnoughBefore (blocks_of_groups groups carriers) (rest (is_run place (burst + 1)) (places 0 n)) o
           → IsFirstBurst (blocks_of_groups groups carriers) (places 0 n) burst place o
-      is_first o short is =
+      is_first o short is before =
           let p = places_length 0 n in
           let l = ends_within o short in
           record {
@@ -146,19 +157,43 @@ module _ (groups : List Group) (carriers : List ℕ) (n : ℕ) (are : AreOrdered
               lacks = lacks groups carriers n are came place (place + burst) place (burst + 1) o short (omega arith) (omega arith);
             };
             first = λ s other g r e. none_earlier s other.length other.block g e r.lacks;
+            before = before;
           }
+
+    -- a group that has no window so narrow there isn't left short
+    enough_there : (b : ℕ) → b < length groups
+        → ((x y : ℕ) → IsShortWindow (group_at groups b).members (group_at groups b).need x y
+        → place_at (group_at groups b).members (y - 1) ≤ place_at (group_at groups b).members x + burst → place < place_at (group_at groups b).members x)
+        → is_enough (blocks_of_groups groups carriers) (rest (is_run place (burst + 1)) (places 0 n)) b ≡ true
+    enough_there b l later =
+        elim (is_enough (blocks_of_groups groups carriers) (rest (is_run place (burst + 1)) (places 0 n)) b)
+        as (λ v. is_enough (blocks_of_groups groups carriers) (rest (is_run place (burst + 1)) (places 0 n)) b ≡ v → v ≡ true) [
+          | true ↦ λ e. refl
+          | false ↦ λ e.
+              (let w = short_window_of groups n are b place (burst + 1) l e in
+              let from = w.3 in
+              let to = w.4 in
+              let q = wide b l in
+              let low = q.low in
+              let least = q.is.least w.0 w.1 w.2 in
+              let c = later w.0 w.1 w.2 (omega (arith, from, to)) in
+              absurd (omega (arith, from, to, low, least, c)))
+        ] refl
 
   module _ (at place gap : ℕ) (narrowest : AreNarrowest groups (length groups) at place gap) (wide : (b : ℕ) → b < length groups → IsWideGroup (group_at groups b) gap) where
     pub first_of_blocks : gap ≤ span carriers → (span carriers ≡ gap → place ≤ get_or carriers 0 0) → IsBurst (blocks_of_groups groups carriers) (places 0 n) gap
         → IsFirstBurst (blocks_of_groups groups carriers) (places 0 n) gap place (Some at)
     first_of_blocks few early =
-        is_first gap place wide few narrowest.first (λ g. early (omega (arith, g, few))) (Some at) (narrowest.within, narrowest.window)
+        (λ is. is_first gap place wide few narrowest.first (λ g. early (omega (arith, g, few))) (Some at) (narrowest.within, narrowest.window) is
+        (λ b l. (let up = narrowest.within in enough_there gap place wide few b (omega (arith, l, up)) (λ x y. narrowest.early b x y l))))
 
     pub first_of_carriers : span carriers ≤ gap → (span carriers ≡ gap → get_or carriers 0 0 < place) → IsBurst (blocks_of_groups groups carriers) (places 0 n) (span carriers)
         → IsFirstBurst (blocks_of_groups groups carriers) (places 0 n) (span carriers) (get_or carriers 0 0) None
     first_of_carriers few early =
-        is_first (span carriers) (get_or carriers 0 0)
-        (λ b l. (let q = wide b l in let low = q.low in record { gap = q.gap; is = q.is; low = omega (arith, low, few) })) (omega arith)
+        let wider : (b : ℕ) → b < length groups → IsWideGroup (group_at groups b) (span carriers) =
+        (λ b l. (let q = wide b l in let low = q.low in record { gap = q.gap; is = q.is; low = omega (arith, low, few) })) in
+        let later : (b x y : ℕ) → b < length groups → IsShortWindow (group_at groups b).members (group_at groups b).need x y
+        → place_at (group_at groups b).members (y - 1) ≤ place_at (group_at groups b).members x + span carriers → get_or carriers 0 0 < place_at (group_at groups b).members x =
         (λ b x y l is far.
         (let q = wide b l in
         let low = q.low in
@@ -166,5 +201,8 @@ module _ (groups : List Group) (carriers : List ℕ) (n : ℕ) (are : AreOrdered
         let same : span carriers ≡ gap = omega (arith, low, least, far, few) in
         let e = early same in
         let o = narrowest.first b x y l is (omega (arith, far, same)) in
-        omega (arith, e, o)))
-        (λ g. omega arith) None (omega arith, (let up = span_fits n carriers came in omega (arith, up)))
+        omega (arith, e, o))) in
+        (λ is. is_first (span carriers) (get_or carriers 0 0) wider (omega arith)
+        (λ b x y l is far. (let z = later b x y l is far in omega (arith, z)))
+        (λ g. omega arith) None (omega arith, (let up = span_fits n carriers came in omega (arith, up))) is
+        (λ b l. enough_there (span carriers) (get_or carriers 0 0) wider (omega arith) b l (λ x y. later b x y l)))

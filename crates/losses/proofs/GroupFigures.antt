@@ -94,7 +94,7 @@ module _ {X : Type 0} (these : Blocks X) (xs : List X) (ps : ℕ → List Number
           ] refl;
     }
 
-    pub kill : IsBlockKill these xs (m + 1) (doomed 0 t last (ps at))
+    pub kill : IsBlockKill these xs (m + 1) at (doomed 0 t last (ps at))
     kill =
         let lost = is_among (doomed 0 t last (ps at)) in
         let here = small at at_within in
@@ -105,7 +105,6 @@ module _ {X : Type 0} (these : Blocks X) (xs : List X) (ps : ℕ → List Number
           rising = places_rise (is_doomed 0 t last (ps at)) 0 (ps at);
           count = places_count (is_doomed 0 t last (ps at)) 0 (ps at) ∙ sym (marks_size (is_doomed 0 t last (ps at)) lost 0 (ps at) (marks_places (is_doomed 0 t last (ps at)) 0 (ps at))) ∙ z ∙ sym is;
           within = places_below (is_doomed 0 t last (ps at)) 0 (length xs) (ps at) (omega (arith, n));
-          block = at;
           short = record { size = sym s ∙ z ∙ sym is; block = at_within; short = short_to at lost at_within (doomed_short 0 (these.need at) t last (ps at) here cut_at.count) };
           least = λ b x h.
               elim (nat_le at b) as (λ v. nat_le at b ≡ v → at ≤ b) [
@@ -258,21 +257,12 @@ module _ (groups : List Group) (n : ℕ) (are : AreOrdered groups n) where
     pub margin_of_groups : IsBlockMargin (blocks_of_groups groups []) (places 0 n) (price - 1)
     margin_of_groups = margin (blocks_of_groups groups []) (places 0 n) (λ b. line 0 n (group_at groups b).members) small len whole left at t last (price - 1) within cut is priced
 
-    pub kill_of_groups : IsBlockKill (blocks_of_groups groups []) (places 0 n) (price - 1 + 1) (cheap_places (group_at groups at).members t last)
+    pub kill_of_groups : IsBlockKill (blocks_of_groups groups []) (places 0 n) (price - 1 + 1) at (cheap_places (group_at groups at).members t last)
     kill_of_groups =
         let e : cheap_places (group_at groups at).members t last ≡ doomed 0 t last (line 0 n (group_at groups at).members) =
         ap (λ (qs : List Member). cheap_places qs t last) (sym (of_line at within)) ∙ doomed_are 0 (line 0 n (group_at groups at).members) t last in
-        subst (λ (ks : List ℕ). IsBlockKill (blocks_of_groups groups []) (places 0 n) (price - 1 + 1) ks) (sym e)
+        subst (λ (ks : List ℕ). IsBlockKill (blocks_of_groups groups []) (places 0 n) (price - 1 + 1) at ks) (sym e)
         (kill (blocks_of_groups groups []) (places 0 n) (λ b. line 0 n (group_at groups b).members) small len whole left at t last (price - 1) within cut is priced)
-
-    -- it leaves that group short
-    pub kill_short : is_enough (blocks_of_groups groups []) (rest (is_among (cheap_places (group_at groups at).members t last)) (places 0 n)) at ≡ false
-    kill_short =
-        let e : cheap_places (group_at groups at).members t last ≡ doomed 0 t last (line 0 n (group_at groups at).members) =
-        ap (λ (qs : List Member). cheap_places qs t last) (sym (of_line at within)) ∙ doomed_are 0 (line 0 n (group_at groups at).members) t last in
-        subst (λ (ks : List ℕ). is_enough (blocks_of_groups groups []) (rest (is_among ks) (places 0 n)) at ≡ false) (sym e)
-        (short_to (blocks_of_groups groups []) (places 0 n) (λ b. line 0 n (group_at groups b).members) small len whole left at (is_among (doomed 0 t last (line 0 n (group_at groups at).members))) within
-        (doomed_short 0 (group_at groups at).need t last (line 0 n (group_at groups at).members) (small at within) cut.count))
 
   pub burst_of_groups : (at gap : ℕ) → at < length groups → IsLeastGap (group_at groups at).members (group_at groups at).need gap
       → ((b : ℕ) → b < length groups → IsWideGroup (group_at groups b) gap) → IsBlockBurst (blocks_of_groups groups []) (places 0 n) gap

@@ -4,9 +4,9 @@ use Rattle.std.specs.List.{AllByRecursion, list_any}
 use Rattle.std.proofs.Common.{◌∙◌, sym, ap, subst, arith}
 use Rattle.lists.specs.Selection.{rest, loss_size, lost_from, is_run, is_among}
 use Rattle.lists.specs.Below.{below}
-use Rattle.losses.specs.Losses.{Blocks, esis_in, is_enough, carrier_places, IsHarmless, IsMargin, IsBurst, IsBefore, taken_wholly, LeavesShort, KillsBlock, IsKill}
+use Rattle.losses.specs.Losses.{Blocks, esis_in, is_enough, carrier_places, IsHarmless, IsMargin, IsBurst, IsBefore, taken_wholly, LeavesShort, KillsBlock, Kills, IsKill}
 use Rattle.losses.specs.declared.longest.Run.{Run}
-use Rattle.losses.specs.Runs.{Lacks, IsLongestRun, IsFirstBurst, IsRunFrom, run_at, AreRuns}
+use Rattle.losses.specs.Runs.{Lacks, IsEnoughBefore, IsLongestRun, IsFirstBurst, IsRunFrom, run_at, AreRuns}
 use Rattle.losses.proofs.BlockLosses.{KeepsBlocks, IsBlockMargin, IsBlockBurst, IsBlockKill}
 use Rattle.lists.proofs.Lists.{filter_same, all_of, all_to}
 
@@ -77,23 +77,21 @@ module _ {X Y : Type 0} (these : Blocks X) (those : Blocks Y) (xs : List X) (ys 
         (subst (λ (js : List ℕ). IsBefore (taken_wholly these xs lost block) js) (taken_same (is_among places) block here)
         (subst (λ (js : List ℕ). IsBefore js (taken_wholly those ys (is_among places) block)) (taken_same lost block here) before))
 
-  pub block_kill_same : (n : ℕ) (places : List ℕ) → IsBlockKill these xs n places → IsBlockKill those ys n places
-  block_kill_same n places h = record {
+  pub block_kill_same : (n block : ℕ) (places : List ℕ) → IsBlockKill these xs n block places → IsBlockKill those ys n block places
+  block_kill_same n block places h = record {
     rising = h.rising;
     count = h.count;
     within = within_same places h.within;
-    block = h.block;
-    short = short_to n h.block (is_among places) h.short;
-    least = least_same n places h.block h.short.block h.least;
-    first = first_same n places h.block h.short.block h.first;
+    short = short_to n block (is_among places) h.short;
+    least = least_same n places block h.short.block h.least;
+    first = first_same n places block h.short.block h.first;
   }
 
-  killed_same : (n : ℕ) (places : List ℕ) → KillsBlock these xs n places → KillsBlock those ys n places
-  killed_same n places h = record {
-    block = h.block;
-    short = short_to n h.block (is_among places) h.short;
-    least = least_same n places h.block h.short.block h.least;
-    first = first_same n places h.block h.short.block h.first;
+  killed_same : (n block : ℕ) (places : List ℕ) → KillsBlock these xs n block places → KillsBlock those ys n block places
+  killed_same n block places h = record {
+    short = short_to n block (is_among places) h.short;
+    least = least_same n places block h.short.block h.least;
+    first = first_same n places block h.short.block h.first;
   }
 
   -- and each loss of which leaves a carrier, or none
@@ -118,13 +116,20 @@ module _ {X Y : Type 0} (these : Blocks X) (those : Blocks Y) (xs : List X) (ys 
       greatest = λ n l bears. h.greatest n (omega (arith, l, len)) (λ a g. harmless_from (is_run a n) (bears a (omega (arith, g, len))));
     }
 
-    pub kill_same : (n : ℕ) (places : List ℕ) → IsKill these xs n places → IsKill those ys n places
-    kill_same n places h = record {
+    kills_same : (n : ℕ) (places : List ℕ) (o : Option ℕ) → Kills these xs n places o → Kills those ys n places o
+    kills_same n places None h = (h.0 ∙ sym carriers, λ b lost s. h.1 b lost (short_from n b lost s))
+    kills_same n places (Some block) h = killed_same n block places h
+
+    pub kill_same : (n : ℕ) (places : List ℕ) (o : Option ℕ) → IsKill these xs n places o → IsKill those ys n places o
+    kill_same n places o h = record {
       count = h.count;
       within = (h.within.0, within_same places h.within.1);
-      block = λ b lost s. killed_same n places (h.block b lost (short_from n b lost s));
-      carriers = λ none. h.carriers (λ b lost s. none b lost (short_to n b lost s)) ∙ sym carriers;
+      kills = kills_same n places o h.kills;
     }
+
+    before_same : (lost : ℕ → Bool) (o : Option ℕ) → Lacks these (rest lost xs) o → IsEnoughBefore these (rest lost xs) o → IsEnoughBefore those (rest lost ys) o
+    before_same lost None lacks h = λ a l. let here : a < these.count = omega (arith, l, count) in enough_same lost a here ∙ h a here
+    before_same lost (Some b) lacks h = λ a l. (let up = lacks.0 in enough_same lost a (omega (arith, l, up))) ∙ h a l
 
     pub lacks_same : (lost : ℕ → Bool) (o : Option ℕ) → Lacks these (rest lost xs) o → Lacks those (rest lost ys) o
     lacks_same lost None h = carrier lost ∙ h
@@ -155,6 +160,7 @@ module _ {X Y : Type 0} (these : Blocks X) (those : Blocks Y) (xs : List X) (ys 
     first_burst_same size place o h = record {
       run = longest_same place (record { length = size; block = o }) h.run;
       first = λ p other l r. h.first p other l (longest_from p other r);
+      before = before_same (is_run place (size + 1)) o h.run.lacks h.before;
     }
 
     run_same : (s : ℕ) (o : Option Run) → IsRunFrom these xs s o → IsRunFrom those ys s o

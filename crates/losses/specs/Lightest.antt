@@ -41,8 +41,8 @@ IsLightest groups l =
     AreLeast groups
     (length groups) l.at l.threshold.cost l.threshold.most_copies l.threshold.last_esi l.gap.length
 
--- of the groups below n, the first place of a window that goes no further than the gap, and a group
--- that it leaves short
+-- of the groups below n, the first place of a window that goes no further than the gap, and the
+-- first group that it leaves short
 pub record AreNarrowest (groups : List Group) (n at place gap : ℕ) : Type 0 where
   pub within : at < n
   pub window : HaveWindow (group_at groups at).members (group_at groups at).need place (place + gap)
@@ -50,6 +50,10 @@ pub record AreNarrowest (groups : List Group) (n at place gap : ℕ) : Type 0 wh
       → IsShortWindow (group_at groups b).members (group_at groups b).need x y
       → place_at (group_at groups b).members (y - 1) ≤ place_at (group_at groups b).members x + gap
       → place ≤ place_at (group_at groups b).members x
+  pub early : (b x y : ℕ) → b < at
+      → IsShortWindow (group_at groups b).members (group_at groups b).need x y
+      → place_at (group_at groups b).members (y - 1) ≤ place_at (group_at groups b).members x + gap
+      → place < place_at (group_at groups b).members x
 
 abbrev pub IsNarrowest : List Group → Lightest → Type 0
 IsNarrowest groups l = AreNarrowest groups (length groups) l.gap_at l.gap.place l.gap.length

@@ -2,7 +2,7 @@
 -- What is left has to be enough for each block, and has to have a carrier: a packet that tells what
 -- the blocks are.
 use Rattle.std.specs.Prelude.{◌≡◌, ℕ, ◌+◌, ◌<◌, ◌≤◌, ◌⊎◌, Bool, true, false, not, nat_le, cond}
-use Rattle.std.specs.Prelude.{List, [], ◌∷◌, length, filter}
+use Rattle.std.specs.Prelude.{List, [], ◌∷◌, length, filter, Option, Some, None}
 use Rattle.std.specs.List.{list_any}
 use Rattle.lists.specs.Selection.{rest, loss_size, is_run, is_among}
 use Rattle.lists.specs.Below.{below}
@@ -77,25 +77,27 @@ pub record LeavesShort {X : Type 0} (blocks : Blocks X) (xs : List X) (n b : ℕ
   pub block : b < blocks.count
   pub short : is_enough blocks (rest lost xs) b ≡ false
 
--- The loss of these n places leaves short the least block that any loss of n places leaves short;
--- and of all losses of n places that leave this block short it's the one whose list of ESIs wholly
+-- The loss of these n places leaves this block short, the least that any loss of n places leaves
+-- short; and of all losses of n places that leave it short it's the one whose list of ESIs wholly
 -- taken away stands first in a dictionary.
-pub record KillsBlock {X : Type 0} (blocks : Blocks X) (xs : List X) (n : ℕ)
+pub record KillsBlock {X : Type 0} (blocks : Blocks X) (xs : List X) (n block : ℕ)
     (places : List ℕ) : Type 0 where
-  pub block : ℕ
   pub short : LeavesShort blocks xs n block (is_among places)
   pub least : (b : ℕ) (lost : ℕ → Bool) → LeavesShort blocks xs n b lost → block ≤ b
   pub first : (lost : ℕ → Bool) → LeavesShort blocks xs n block lost
       → ¬ IsBefore (taken_wholly blocks xs lost block)
       (taken_wholly blocks xs (is_among places) block)
 
--- n places, rising: those of a block's kill, where a loss of n places leaves a block short, else
--- those of all carriers
-pub record IsKill {X : Type 0} (blocks : Blocks X) (xs : List X) (n : ℕ)
-    (places : List ℕ) : Type 0 where
+-- the loss of these n places kills this block; or it's that of all carriers, where no loss of n
+-- places leaves a block short
+abbrev pub Kills : {X : Type 0} → Blocks X → List X → ℕ → List ℕ → Option ℕ → Type 0
+Kills blocks xs n places (Some block) = KillsBlock blocks xs n block places
+Kills blocks xs n places None = (places ≡ carrier_places blocks xs)
+    × ((b : ℕ) (lost : ℕ → Bool) → ¬ LeavesShort blocks xs n b lost)
+
+-- n places, rising, whose loss kills this block, or takes all carriers
+pub record IsKill {X : Type 0} (blocks : Blocks X) (xs : List X) (n : ℕ) (places : List ℕ)
+    (block : Option ℕ) : Type 0 where
   pub count : length places ≡ n
   pub within : ArePlaces (length xs) places
-  pub block : (b : ℕ) (lost : ℕ → Bool) → LeavesShort blocks xs n b lost
-      → KillsBlock blocks xs n places
-  pub carriers : ((b : ℕ) (lost : ℕ → Bool) → ¬ LeavesShort blocks xs n b lost)
-      → places ≡ carrier_places blocks xs
+  pub kills : Kills blocks xs n places block

@@ -1,5 +1,5 @@
 -- The longest run of neighbouring places from each place on whose loss is harmless.
-use Rattle.std.specs.Prelude.{◌≡◌, ◌≢◌, ℕ, ◌+◌, ◌<◌, ◌≤◌, false, List, length, slice_index_or}
+use Rattle.std.specs.Prelude.{◌≡◌, ◌≢◌, ℕ, ◌+◌, ◌<◌, ◌≤◌, true, false, List, length, slice_index_or}
 use Rattle.std.specs.Prelude.{Option, Some, None}
 use Rattle.std.specs.List.{list_any}
 use Rattle.lists.specs.Selection.{rest, is_run}
@@ -24,13 +24,19 @@ abbrev pub IsRunFrom : {X : Type 0} → Blocks X → List X → ℕ → Option R
 IsRunFrom blocks xs s (Some run) = IsLongestRun blocks xs s run
 IsRunFrom blocks xs s None = (m : ℕ) → s + m ≤ length xs → IsHarmless blocks xs (is_run s m)
 
--- the first place from which no more than so many neighbours may be missed, and what one more
--- leaves short
+-- what is left is enough for each block before this one, or at none for each block
+abbrev pub IsEnoughBefore : {X : Type 0} → Blocks X → List X → Option ℕ → Type 0
+IsEnoughBefore blocks left (Some b) = (a : ℕ) → a < b → is_enough blocks left a ≡ true
+IsEnoughBefore blocks left None = (a : ℕ) → a < blocks.count → is_enough blocks left a ≡ true
+
+-- the first place from which no more than so many neighbours may be missed, and the first block
+-- that one more leaves short; none where that takes the carriers alone
 pub record IsFirstBurst {X : Type 0} (blocks : Blocks X) (xs : List X) (size place : ℕ)
     (block : Option ℕ) : Type 0 where
   pub run : IsLongestRun blocks xs place (record { length = size; block = block })
   pub first : (p : ℕ) (other : Run) → p < place → IsLongestRun blocks xs p other
       → other.length ≢ size
+  pub before : IsEnoughBefore blocks (rest (is_run place (size + 1)) xs) block
 
 abbrev pub run_at : List (Option Run) → ℕ → Option Run
 run_at runs s = slice_index_or runs s None

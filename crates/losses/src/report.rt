@@ -4,8 +4,7 @@ ghost use Rattle.losses.specs.Groups.{groups_of, AreOfAList, InEachList};
 ghost use Rattle.losses.specs.Ordered.{AreOrdered};
 ghost use Rattle.losses.specs.Losses.{IsMargin, IsKill, IsBurst};
 ghost use Rattle.losses.specs.Lightest.{IsLightest, IsNarrowest};
-ghost use Rattle.losses.specs.Runs.{IsFirstBurst, Lacks};
-ghost use Rattle.lists.specs.Selection.{rest, is_among};
+ghost use Rattle.losses.specs.Runs.{IsFirstBurst};
 
 use crate::groups::Groups;
 use crate::pricing::Threshold;
@@ -21,20 +20,20 @@ pub struct Figures {
     pub margin: usize,
     /// One place more, rising, whose loss does leave a group short, or else no carrier.
     pub kill: Vec<usize>,
-    /// A group that the kill leaves short. With `None` it takes all carriers.
+    /// The group whose kill it is. With `None` it takes all carriers.
     pub kill_block: Option<usize>,
     /// The greatest number of neighbouring places whose loss, wherever they stand, leaves no group
     /// short and a carrier.
     pub burst: usize,
     /// The first place from which no more neighbours than the burst may be missed.
     pub burst_place: usize,
-    /// A group that one neighbour more from there leaves short. With `None` that takes all
-    /// carriers.
+    /// The first group that one neighbour more from there leaves short. With `None` that leaves no
+    /// group short, but takes all carriers.
     pub burst_block: Option<usize>,
 }
 
 // The first of the groups whose loss costs least. The first of the narrowest windows that leave a
-// group short, and that group.
+// group short, and the first such group.
 #[derive(Clone, Copy)]
 struct Lightest {
     at: usize,
@@ -85,9 +84,7 @@ pub fn figures_of(alloc: Global, groups: &Groups, carriers: &[usize]) -> Result<
     ensures margin { IfOk result (λ r. InEachList (groups_of groups.now) carriers.now
         (λ blocks xs. IsMargin blocks xs r.margin)) }
     ensures kill { IfOk result (λ r. InEachList (groups_of groups.now) carriers.now
-        (λ blocks xs. IsKill blocks xs (r.margin + 1) r.kill.items)) }
-    ensures kill_block { IfOk result (λ r. InEachList (groups_of groups.now) carriers.now
-        (λ blocks xs. Lacks blocks (rest (is_among r.kill.items) xs) r.kill_block)) }
+        (λ blocks xs. IsKill blocks xs (r.margin + 1) r.kill.items r.kill_block)) }
     ensures burst { IfOk result (λ r. InEachList (groups_of groups.now) carriers.now
         (λ blocks xs. IsBurst blocks xs r.burst)) }
     ensures first { IfOk result (λ r. InEachList (groups_of groups.now) carriers.now

@@ -1,5 +1,7 @@
 //! The panel of the longest runs of neighbours that may be missed.
 ghost use Rattle.std.specs.Prelude.{◌<◌, length};
+ghost use Rattle.chart.specs.Texts.{Puts};
+ghost use Rattle.picture.specs.Sheets.{harm_text};
 
 use crate::sheet::Sheet;
 use crate::ticks::put_places;
@@ -168,7 +170,9 @@ pub(crate) fn put_shortest(canvas: &mut Canvas, shortest: Shortest) {
 }
 
 /// Puts what a loss does: the block that it leaves short, or else that no carrier is left.
-pub(crate) fn put_harm(canvas: &mut Canvas, block: Option<usize>) {
+pub(crate) fn put_harm(canvas: &mut Canvas, block: Option<usize>)
+    ensures { Puts canvas.old canvas.new (harm_text block) }
+{
     match block {
         Some(block) => {
             canvas.put("leaves block ");

@@ -1,44 +1,20 @@
-//! The words above the panels, and the title and description of the document.
-use crate::bursts::{Shortest, put_shortest};
+//! The words above the panels, and the head of the document.
+ghost use Rattle.chart.specs.Texts.{Puts};
+ghost use Rattle.picture.specs.Sheets.{head_text, margin_text};
+
 use crate::sheet::Sheet;
-use crate::spares::put_block;
-use crate::ticks::{put_carriers, put_kill};
 use chart::{Canvas, SMALL};
 
 /// Puts the head of the document.
-pub(crate) fn put_head(canvas: &mut Canvas) {
+pub(crate) fn put_head(canvas: &mut Canvas)
+    ensures { Puts canvas.old canvas.new head_text }
+{
     canvas.put(concat!(
         "<?xml version=\"1.0\" encoding=\"UTF-8\"?>\n",
         "<svg xmlns=\"http://www.w3.org/2000/svg\" width=\"1000\" height=\"700\" ",
         "viewBox=\"0 0 2000 1400\" role=\"img\" aria-labelledby=\"title desc\" ",
         "font-family=\"DejaVu Sans, Verdana, Arial, sans-serif\">\n",
     ));
-}
-
-/// Puts the title and the description, of the weakest block and the shortest run.
-pub(crate) fn put_description(
-    canvas: &mut Canvas,
-    sheet: &Sheet<'_>,
-    weakest: Option<usize>,
-    shortest: Option<Shortest>,
-) {
-    canvas.put("<title id=\"title\">yes: ");
-    put_verdict(canvas, sheet);
-    canvas.put("</title>\n<desc id=\"desc\">");
-    put_numbers(canvas, sheet);
-    if let Some(block) = weakest {
-        canvas.put("; ");
-        put_block(canvas, sheet.blocks, block);
-    }
-    if let Some(shortest) = shortest {
-        canvas.put("; ");
-        put_shortest(canvas, shortest);
-    }
-    canvas.put("; ");
-    put_kill(canvas, sheet);
-    canvas.put("; ");
-    put_carriers(canvas, sheet);
-    canvas.put(".</desc>\n");
 }
 
 /// Puts the words above the panels.
@@ -74,8 +50,10 @@ fn put_names(canvas: &mut Canvas, sheet: &Sheet<'_>) {
     canvas.end_words();
 }
 
-// Puts what may be missed.
-fn put_verdict(canvas: &mut Canvas, sheet: &Sheet<'_>) {
+/// Puts what may be missed.
+pub(crate) fn put_verdict(canvas: &mut Canvas, sheet: &Sheet<'_>)
+    ensures { Puts canvas.old canvas.new (margin_text sheet.now.margin sheet.now.burst) }
+{
     if sheet.margin == 0 {
         canvas.put("there is a datagram that must not be missed");
         return;
@@ -86,8 +64,8 @@ fn put_verdict(canvas: &mut Canvas, sheet: &Sheet<'_>) {
     canvas.count(sheet.burst, "neighbour", "neighbours");
 }
 
-// Puts the session's identity and its numbers.
-fn put_numbers(canvas: &mut Canvas, sheet: &Sheet<'_>) {
+/// Puts the session's identity and its numbers.
+pub(crate) fn put_numbers(canvas: &mut Canvas, sheet: &Sheet<'_>) {
     canvas.put("TSI ");
     canvas.number(sheet.tsi);
     canvas.put(", TOI ");

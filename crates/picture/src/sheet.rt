@@ -1,10 +1,12 @@
 //! The sheet.
-ghost use Rattle.std.specs.Prelude.{IfOk};
-ghost use Rattle.picture.specs.Sheets.{IsWhole};
+ghost use Rattle.std.specs.Prelude.{IfOk, length, string_bytes};
+ghost use Rattle.chart.specs.Texts.{Puts};
+ghost use Rattle.picture.specs.Sheets.{IsPicture, sheet_text};
 
-use crate::bursts::{lengths_of, put_bursts, shortest_of};
-use crate::heading::{put_description, put_head, put_heading};
-use crate::spares::{put_spares, spares_of, weakest_of};
+use crate::bursts::{lengths_of, put_bursts, put_shortest, shortest_of};
+use crate::heading::{put_head, put_heading, put_numbers, put_verdict};
+use crate::spares::{put_block, put_spares, spares_of, weakest_of};
+use crate::ticks::{put_carriers, put_kill};
 use chart::Canvas;
 use losses::Run;
 use std::alloc::{AllocError, Global};
@@ -40,35 +42,72 @@ pub struct Sheet<'a> {
     pub runs: &'a [Option<Run>],
 }
 
-/// The text of an SVG that shows the sheet, to its end. Want of memory is the only error.
+/// The text of an SVG that shows the sheet, to its end. Its title and its description say the
+/// margin, the burst and the kill. Want of memory is the only error.
 pub fn draw(alloc: Global, sheet: &Sheet<'_>) -> Result<String, AllocError>
-    ensures { IfOk result IsWhole }
+    ensures { IfOk result (λ text. IsPicture sheet.now.margin sheet.now.burst
+        (length sheet.now.kill.now) sheet.now.kill_block (string_bytes text)) }
 {
     let spares = spares_of(alloc, sheet.blocks)?;
     let lengths = lengths_of(alloc, sheet.runs)?;
-    paint(alloc, sheet, spares.as_slice(), lengths.as_slice())
+    let numbers = numbers_of(alloc, sheet, spares.as_slice(), lengths.as_slice())?;
+    let panels = panels_of(alloc, sheet, spares.as_slice(), lengths.as_slice())?;
+    let mut canvas = Canvas::new(alloc);
+    put_sheet(&mut canvas, sheet, numbers.as_str(), panels.as_str());
+    canvas.finish()
 }
 
-// The text, of what the blocks have to spare and how long the runs are.
-fn paint(
+// Puts the whole document, round the numbers of its description and the panels.
+fn put_sheet(canvas: &mut Canvas, sheet: &Sheet<'_>, numbers: &str, panels: &str)
+    ensures { Puts canvas.old canvas.new
+        (sheet_text sheet.now.margin sheet.now.burst (length sheet.now.kill.now)
+        sheet.now.kill_block numbers.now panels.now) }
+{
+    put_head(canvas);
+    canvas.put("<title id=\"title\">yes: ");
+    put_verdict(canvas, sheet);
+    canvas.put("</title>\n<desc id=\"desc\">");
+    canvas.put(numbers);
+    canvas.put("; ");
+    put_kill(canvas, sheet);
+    canvas.put(panels);
+    canvas.put("</svg>\n");
+}
+
+// The numbers of the description: the session's, and those of the weakest block and the shortest
+// run.
+fn numbers_of(
     alloc: Global,
     sheet: &Sheet<'_>,
     spares: &[usize],
     lengths: &[usize],
-) -> Result<String, AllocError>
-    ensures { IfOk result IsWhole }
-{
+) -> Result<String, AllocError> {
     let mut canvas = Canvas::new(alloc);
-    put_head(&mut canvas);
-    put_description(
-        &mut canvas,
-        sheet,
-        weakest_of(spares),
-        shortest_of(sheet.runs, lengths),
-    );
+    put_numbers(&mut canvas, sheet);
+    if let Some(block) = weakest_of(spares) {
+        canvas.put("; ");
+        put_block(&mut canvas, sheet.blocks, block);
+    }
+    if let Some(shortest) = shortest_of(sheet.runs, lengths) {
+        canvas.put("; ");
+        put_shortest(&mut canvas, shortest);
+    }
+    canvas.finish()
+}
+
+// The rest of the description, the words above the panels, and the panels.
+fn panels_of(
+    alloc: Global,
+    sheet: &Sheet<'_>,
+    spares: &[usize],
+    lengths: &[usize],
+) -> Result<String, AllocError> {
+    let mut canvas = Canvas::new(alloc);
+    canvas.put("; ");
+    put_carriers(&mut canvas, sheet);
+    canvas.put(".</desc>\n");
     put_heading(&mut canvas, sheet);
     put_spares(&mut canvas, sheet.blocks, spares);
     put_bursts(&mut canvas, sheet, lengths);
-    canvas.put("</svg>\n");
     canvas.finish()
 }

@@ -1,4 +1,8 @@
 //! Places beneath the panel of the runs: those whose loss does harm, and those that carry the FTI.
+ghost use Rattle.std.specs.Prelude.{length};
+ghost use Rattle.chart.specs.Texts.{Puts};
+ghost use Rattle.picture.specs.Sheets.{kill_text};
+
 use crate::bursts::{PANEL, put_harm};
 use crate::sheet::Sheet;
 use chart::{Canvas, MARKED, SMALL, SMALL_END};
@@ -19,7 +23,10 @@ pub(crate) fn put_places(canvas: &mut Canvas, sheet: &Sheet<'_>) {
 }
 
 /// Puts what is said of the kill.
-pub(crate) fn put_kill(canvas: &mut Canvas, sheet: &Sheet<'_>) {
+pub(crate) fn put_kill(canvas: &mut Canvas, sheet: &Sheet<'_>)
+    ensures { Puts canvas.old canvas.new
+        (kill_text (length sheet.now.kill.now) sheet.now.kill_block) }
+{
     if sheet.kill.len() == 1 {
         canvas.put("kill: to miss this datagram ");
     } else {

@@ -1,12 +1,9 @@
-use Rattle.std.proofs.Common.{◌≡◌, false, ◌+◌, ◌-◌, ℕ, List, length, get_or, ap, sym, ◌∙◌, subst}
+use Rattle.std.proofs.Common.{◌+◌, ◌-◌, ℕ, List, length, get_or, Some, None, ap, sym, ◌∙◌, subst}
 use Rattle.losses.specs.Costs.{cheap_places}
-use Rattle.losses.specs.Losses.{IsKill, is_enough}
+use Rattle.losses.specs.Losses.{IsKill}
 use Rattle.losses.specs.declared.groups.Member.{Member}
 use Rattle.losses.specs.Groups.{groups_of, places, blocks_of_groups}
-use Rattle.std.specs.List.{list_any}
-use Rattle.lists.specs.Selection.{rest, is_among}
-use Rattle.losses.proofs.CarrierPlaces.{none_taken}
-use Rattle.losses.proofs.GroupFigures.{some, kill_short}
+use Rattle.losses.proofs.GroupFigures.{some}
 use Rattle.losses.proofs.CarrierGroup.{span, span_fits, margin_blocks, margin_carriers, kill_blocks, kill_carriers, burst_blocks, burst_carriers}
 use Rattle.losses.proofs.FirstBurst.{before_yes, before_no, first_of_blocks, first_of_carriers}
 use Rattle.losses.proofs.Ordering.{carriers_ordered, groups_ordered}
@@ -30,13 +27,8 @@ returns-then-carriers-block-clause-kill c = λ n told came.
     let carriers = carriers_ordered c.args.carriers.now n came in
     let w = c.in_ok-block.ensures.lightest in
     let l = c.in_ok-block.block in
-    subst (λ (ps : List ℕ). IsKill (blocks_of_groups (groups_of c.args.groups.now) c.args.carriers.now) (places 0 n) (length c.args.carriers.now - 1 + 1) ps) (sym (c.in_ok-to_vec.ensures.items_if_clones_equal (λ x y e. e)))
+    subst (λ (ps : List ℕ). IsKill (blocks_of_groups (groups_of c.args.groups.now) c.args.carriers.now) (places 0 n) (length c.args.carriers.now - 1 + 1) ps None) (sym (c.in_ok-to_vec.ensures.items_if_clones_equal (λ x y e. e)))
     (kill_carriers (groups_of c.args.groups.now) c.args.carriers.now n are carriers l.at l.threshold.cost l.threshold.most_copies l.threshold.last_esi w.within w.weighed w.heavy c.if-carriers-block.true)
-
-pub returns-then-carriers-block-clause-kill_block : goal.returns-then-carriers-block-clause-kill_block
-returns-then-carriers-block-clause-kill_block c = λ n told came.
-    subst (λ (ps : List ℕ). list_any (is_among c.args.carriers.now) (rest (is_among ps) (places 0 n)) ≡ false) (sym (c.in_ok-to_vec.ensures.items_if_clones_equal (λ x y e. e)))
-    (none_taken (is_among c.args.carriers.now) 0 n)
 
 pub returns-then-carriers-block-clause-burst : goal.returns-then-carriers-block-clause-burst
 returns-then-carriers-block-clause-burst c = λ n told came.
@@ -76,21 +68,8 @@ returns-clause-kill c = λ n told came.
     let gs = c.args.groups.now in
     let is = c.deref.ensures.value ∙ c.in_ok-copy_members.ensures in
     let places_are = c.in_ok-kill.ensures ∙ ap (λ (qs : List Member). cheap_places qs l.threshold.most_copies l.threshold.last_esi) is in
-    subst (λ (ps : List ℕ). IsKill (blocks_of_groups (groups_of gs) c.args.carriers.now) (places 0 n) (c.in_ok-block.block.threshold.cost - 1 + 1) ps) (sym places_are)
+    subst (λ (ps : List ℕ). IsKill (blocks_of_groups (groups_of gs) c.args.carriers.now) (places 0 n) (c.in_ok-block.block.threshold.cost - 1 + 1) ps (Some l.at)) (sym places_are)
     (kill_blocks (groups_of gs) c.args.carriers.now n are carriers l.at l.threshold.cost l.threshold.most_copies l.threshold.last_esi w.within w.weighed w.heavy c.if-carriers-block.false)
-
-pub returns-clause-kill_block : goal.returns-clause-kill_block
-returns-clause-kill_block c = λ n told came.
-    let are = groups_ordered (groups_of c.args.groups.now) n told in
-    let w = c.in_ok-block.ensures.lightest in
-    let l = c.in_ok-block.block in
-    let gs = c.args.groups.now in
-    let is = c.deref.ensures.value ∙ c.in_ok-copy_members.ensures in
-    let places_are = c.in_ok-kill.ensures ∙ ap (λ (qs : List Member). cheap_places qs l.threshold.most_copies l.threshold.last_esi) is in (
-      w.within,
-      subst (λ (ps : List ℕ). is_enough (blocks_of_groups (groups_of c.args.groups.now) c.args.carriers.now) (rest (is_among ps) (places 0 n)) c.in_ok-block.block.at ≡ false) (sym places_are)
-          (kill_short (groups_of gs) n are l.at l.threshold.cost l.threshold.most_copies l.threshold.last_esi w.within w.weighed w.heavy),
-    )
 
 pub returns-clause-burst : goal.returns-clause-burst
 returns-clause-burst c = λ n told came.

@@ -11,7 +11,7 @@ use Rattle.cert.proofs.DatagramSteps.{all_sound}
 use Rattle.cert.proofs.Bridge.{lines_are}
 use Rattle.cert.proofs.CarrierPlaces.{places_counted}
 use Rattle.cert.proofs.Lacking.{groups_there, carriers_there}
-use Rattle.cert.proofs.Losing.{margin_told, kill_told, lacks_told, burst_told, first_burst_told}
+use Rattle.cert.proofs.Losing.{margin_told, kill_told, burst_told, first_burst_told}
 use Rattle.cert.proofs.tally.Tally.report.Goals as goal
 
 pub figures_of-requires-clause-some : goal.figures_of-requires-clause-some
@@ -44,7 +44,6 @@ returns-clause-report c = λ says f datagrams each h. (
     let carriers = rw h.tallied.placed at (carriers_there says f tally datagrams h c.requires.all) in
     let margin = rw (c.deref.ensures.value, h.tallied.placed) at c.in_ok-margin.ensures.margin in
     let kill = rw (c.deref.ensures.value, h.tallied.placed) at c.in_ok-margin.ensures.kill in
-    let kill_block = rw (c.deref.ensures.value, h.tallied.placed) at c.in_ok-margin.ensures.kill_block in
     let burst = rw (c.deref.ensures.value, h.tallied.placed) at c.in_ok-margin.ensures.burst in
     let first = rw (c.deref.ensures.value, h.tallied.placed) at c.in_ok-margin.ensures.first in
     record {
@@ -56,8 +55,7 @@ returns-clause-report c = λ says f datagrams each h. (
           c.without_different-repeats.ensures ∙ ap (λ (bs : List (ℕ × ℕ)). c.args.self.now.taken - sum_by (λ counts. counts.1) bs) c.deref-2.ensures.value
           ∙ ap (λ (m : ℕ). m - sum_by (λ counts. counts.1) c.in_ok-blocks.blocks.items) (sym h.tallied.counts);
       margin = margin_told who f valid rs all groups h.tallied.grouped _ (margin (length rs) are carriers);
-      kill = kill_told who f valid rs all groups h.tallied.grouped _ _ (kill (length rs) are carriers);
-      kill_block = lacks_told who f valid rs all groups h.tallied.grouped _ _ (kill_block (length rs) are carriers);
+      kill = kill_told who f valid rs all groups h.tallied.grouped _ _ _ (kill (length rs) are carriers);
       burst = burst_told who f valid rs all groups h.tallied.grouped _ (burst (length rs) are carriers);
       first_burst = first_burst_told who f valid rs all groups h.tallied.grouped _ _ _ (first (length rs) are carriers);
     })

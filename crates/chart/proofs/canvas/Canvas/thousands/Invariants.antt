@@ -1,5 +1,5 @@
 use Rattle.std.proofs.Common.{◌≡◌, ◌+◌, length, drop}
-use Rattle.chart.specs.Texts.{thousands_text}
+use Rattle.chart.specs.Counts.{thousands_text}
 use Rattle.chart.proofs.Putting.{Leaves}
 use Rattle.chart.proofs.canvas.Canvas.thousands.Given as goal
 
