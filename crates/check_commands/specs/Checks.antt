@@ -67,7 +67,7 @@ TellsRequest files r answered =
 
 -- ---- files that are checked where they stand
 
--- a file of one of these names, each of which is reliable or not, isn't as it was when it was opened
+-- a file of one of these names, which are reliable or not, isn't as it was when it was opened
 abbrev pub HaveChanged : List ℕ × Bool → List ℕ × Bool → List ℕ × Bool → Fault → Type 0
 HaveChanged session object certificate fault =
     HasChanged session.1 session.0 fault ⊎ HasChanged object.1 object.0 fault

@@ -69,8 +69,8 @@ pub fn check<'a, H: Host>(
     }
 }
 
-// What is told of the files of a request. The session is checked where it stands, or, if it is a pipe
-// or a device, as its frames come.
+// What is told of the files of a request. The session is checked where it stands, or, if it is a
+// pipe or a device, as its frames come.
 fn read_and_answer<'a, H: Host>(
     alloc: Global,
     host: &H,

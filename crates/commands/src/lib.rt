@@ -1,7 +1,7 @@
 //! What the commands share: what each of them reads, gives and prints, and why it may not.
 //!
-//! - `input`, `whole`, `output`: files that are read, those that are read at offsets, and files that
-//!   are made; `frames`: a session's frames.
+//! - `input`, `whole`, `output`: files that are read, what is read at offsets, and files that are
+//!   made; `frames`: a session's frames.
 //! - `print`, `wording`: lines, and the words of faults.
 //! - `done`, `telling`: what a command has done, and how it is told.
 //! - `fault`: why one wasn't done.

@@ -74,8 +74,8 @@ pub trait Host {
         ensures none { OnErr result ((world self.new).created ≡ (world self.old).created) };
 
     /// Puts what was written under its name, in the place of the file that was there. `Uncreated`
-    /// comes only if a file is there that stays, or creating it is refused, and `Io` only if writing
-    /// it is; after a fault the files are as they were.
+    /// comes only if a file is there that stays, or creating it is refused, and `Io` only if
+    /// writing it is; after a fault the files are as they were.
     fn keep_file(
         &mut self,
         name: &str,

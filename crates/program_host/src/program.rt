@@ -117,18 +117,18 @@ impl<'a, R: Files<File = File>, O: std::io::Write + Drop> ProgramHost<'a, R, O> 
     pub fn guard(&mut self, request: &Request<'_>)
         ensures { self.new.out ≡ self.old.out }
     {
-        let inputs = match request {
-            Request::Check(_) | Request::Twin(_) | Request::Encode(_) | Request::Certify(_) => {
-                [request.session(), request.object(), request.certificate()]
-            }
+        self.guarded = match request {
+            Request::Check(_) | Request::Twin(_) | Request::Encode(_) | Request::Certify(_) => [
+                self.id_of(request.session()),
+                self.id_of(request.object()),
+                self.id_of(request.certificate()),
+            ],
             _ => [None; 3],
         };
-        for place in 0..3 {
-            self.guarded[place] = match inputs[place] {
-                Some(name) => FileId::of_name(self.rt, name),
-                None => None,
-            };
-        }
+    }
+
+    fn id_of(&self, name: Option<&str>) -> Option<FileId> {
+        FileId::of_name(self.rt, name?)
     }
 
     // Closes a file that isn't kept, and takes it away.
