@@ -176,7 +176,7 @@ def prose(text):
         part = part.replace("\\", "\\e").replace("^", "\\(ha")
         option = r"(?<![\w-])-(-[\w-]+|\w\b)"
         parts[place] = re.sub(option, lambda found: found.group().replace("-", "\\-"), part)
-    text = re.sub(r"(?<=[a-z0-9)RFT][.:]) (?=[A-Z]|\\fB)", "\n", "".join(parts))
+    text = re.sub(r"(?<=[\w)][.:]) (?=[A-Z]|\\fB)", "\n", "".join(parts))
     return re.sub(r"^(?=[.'])", r"\\&", text, flags=re.M)
 
 
@@ -310,11 +310,10 @@ def overview(top):
 
 
 def answers():
-    told = of_markdown(blocks("docs/OPERATING.md", "When the answer is no"))
     return page("alcrs-answers", 7, "What each answer of alcrs means, and what to do", [
-        ("DESCRIPTION", told),
+        ("DESCRIPTION", of_markdown(blocks("docs/OPERATING.md", "When the answer is no"))),
         ("CODES", [prose("When each is printed. `alcrs`(1) has the terms."), ".PP"] + codes()),
-        ("SEE ALSO", [prose(f"`alcrs`(1); {DOCUMENTS}")]),
+        ("SEE ALSO", [prose(f"`alcrs`(1); {DOCUMENTS}.")]),
     ])
 
 
@@ -326,9 +325,10 @@ def codes():
         for row in rows:
             found = [f"`{one}`" for one in dict.fromkeys(CODE.findall(" ".join(row)))]
             if found:
-                title, text = next(it for it in zip(head, row) if not CODE.search(it[1]))
-                subject = title + " " if title.startswith("the ") else ""
-                pairs.append((prose(", ".join(found)), prose(subject + text)))
+                without = [it for it in zip(head, row) if not CODE.search(it[1])]
+                title, text = (without or [(head[0], row[0])])[0]
+                text = f"{title} {text}" if title.startswith("the ") else text
+                pairs.append((prose(", ".join(found)), prose(text)))
     return tagged(pairs)
 
 
