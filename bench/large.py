@@ -13,7 +13,6 @@ import argparse
 import filecmp
 import os
 import random
-import subprocess
 import sys
 import tempfile
 

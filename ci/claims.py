@@ -24,7 +24,7 @@ import struct
 import sys
 import tempfile
 
-from trying import BEFORE, OF_NOTE, PROGRAM, SAMPLES, Rooms, in_turn
+from trying import BEFORE, OF_NOTE, SAMPLES, Rooms, in_turn
 
 ROOM = 64 << 20
 FTI = "F1 LengthZero|F2 LengthTooGreat|F3 SymbolZero|F4 BlockZero|F5 MaxBelowBlock|F6 TooManyBlocks"

@@ -1,17 +1,18 @@
 #!/usr/bin/env python3
-"""Makes the man page and the completions of bash, zsh and fish from the help texts of samples/help.
+"""Makes man pages, and completions of bash, zsh and fish, from the help texts of samples/help.
 
-ci/compare compares the help texts with what the program prints. So the man page and the
+ci/compare compares the help texts with what the program prints. So the man pages and the
 completions say what the program says: which commands there are, and of each its arguments, options,
-lines and statuses. What no help text has stands below: what alcrs is for, and the files.
+lines and statuses. What no help text has is taken from the documents: alcrs(1) has what README and
+docs/FORMATS.md say of its purpose, terms, inputs and outputs, alcrs-answers(7) what
+docs/OPERATING.md says of each answer, and docs/FORMATS.md of each code.
 
     ci/manual.py            fails where a file isn't what it would write, and tells which
-    ci/manual.py --write    writes docs/alcrs.1, and alcrs.bash, _alcrs, alcrs.fish in completions/
+    ci/manual.py --write    writes docs/man/ and completions/
 """
 import itertools
 import re
 import sys
-import textwrap
 from pathlib import Path
 
 ROOT = Path(__file__).resolve().parent.parent
@@ -22,36 +23,20 @@ SECTIONS = ("Commands:", "Arguments:", "Options:")
 HEAD = re.compile(r"((?:-\w, )?--[\w-]+)? ?(?:[<[]([\w-]+)[>\]])?(\.\.\.)?")
 # What takes a number tells its range.
 RANGE = re.compile(r"\b\d+ to \d+\b")
+# What groff reads as something else.
+ESCAPED = str.maketrans({
+    "\\": "\\e", "-": "\\-", "'": "\\(aq", "`": "\\(ga", "^": "\\(ha", "~": "\\(ti"
+})
+# A code of an answer, and its name.
+CODE = re.compile(r"\b[A-Z]\d+ [A-Z][A-Za-z]+")
 # The command that has no help text of its own: it prints those of the others.
 HELP_COMMAND = "help"
 
-PURPOSE = """\
-Before a file is broadcast, alcrs tells whether every listener who receives enough of it can rebuild
-it exactly, and how many datagrams may be missed. It is for operators who send a file once, by
-multicast, to listeners who can't ask for anything again. It looks at the very datagrams that will
-be sent."""
-# Files by their names in the synopsis, each in a sentence.
-FILES = [
-    ("SESSION", "A session file has its datagrams in the order in which they are sent, each behind "
-     "its length in two bytes."),
-    ("OBJECT", "An object is the file that is sent: any file that isn't empty."),
-    ("CERT", "A certificate has the TSI and TOI that it is for, unless it is of the older layout, "
-     "the numbers by which the object was cut, and for each block the coefficients of its "
-     "polynomials."),
-    ("OUT", "An output is whole, or what it was before: it is written to `OUT.part`, which is "
-     "renamed at the end. A pipe, a device or a link to no file is written straight."),
-    ("-", "As the name of an input this is standard input. As `OUT` it is the name of a file."),
-]
-FILES_POINTER = (
-    "docs/FORMATS.md of the source has the layout of each file, and every line that is printed."
-)
-FAULTS_POINTER = "docs/OPERATING.md of the source says of each reason what to do about it."
-SEE_ALSO = [
-    "docs/OPERATING.md: for operators, from the numbers of a session to what each answer asks for.",
-    "docs/FORMATS.md: bytes and printed lines.",
-    "RFC 5775 (ALC), RFC 5651 (LCT), RFC 5510 (Reed-Solomon, FEC Encoding ID 5), "
-    "RFC 5052 (blocks).",
-]
+MANUALS = {1: "User Commands", 7: "Miscellaneous"}
+MOST_LINES = 200
+DOCUMENTS = "README.md, docs/OPERATING.md and docs/FORMATS.md of the source"
+STANDARDS = ("RFC 5775 (ALC), RFC 5651 (LCT), RFC 5510 (Reed-Solomon, FEC Encoding ID 5), "
+             "RFC 5052 (blocks)")
 
 
 # ---- the help texts
@@ -80,9 +65,6 @@ class Entry:
     def long_name(self):
         return self.names[-1]
 
-    def shown_value(self):
-        return "|".join(self.words) if self.words else self.value
-
 
 class Help:
     """What a help text says. A line that has no place in it is an error, so that nothing is left
@@ -92,7 +74,7 @@ class Help:
     def __init__(self, name):
         self.name = name
         self.commands, self.arguments, self.options = [], [], []
-        self.text, self.examples = [], []
+        self.text, self.statuses, self.examples = [], [], []
         lines = (HELP / f"{name}.txt").read_text().splitlines()
         self.about, blank, usage = lines[:3]
         if blank or not usage.startswith("Usage: alcrs"):
@@ -112,6 +94,8 @@ class Help:
                 entries[-1][2].append(line.strip())
             elif section:
                 entries.append((section, line.strip(), []))
+            elif line.startswith("Statuses: "):
+                self.statuses = statuses(line)
             elif line.startswith("Example: "):
                 self.examples.append(line.removeprefix("Example: "))
             elif self.examples and self.examples[-1].endswith("\\"):
@@ -120,38 +104,18 @@ class Help:
                 sys.exit(f"samples/help/{name}.txt: a printed line without its meaning: {line}")
             else:
                 self.text.append(line)
+        # An argument or an option stands on a line, and its text on those behind it.
         for section, head, texts in entries:
-            self.add(section, head, texts)
+            if not texts:
+                sys.exit(f"samples/help/{self.name}.txt: a line without a text: {head}")
+            listed = self.arguments if section == "Arguments:" else self.options
+            listed.append(Entry(head, " ".join(texts)))
 
     def add_command(self, line):
         head, gap, text = line.strip().partition("  ")
         if not gap:
             sys.exit(f"samples/help/{self.name}.txt: a line without a text: {line}")
         self.commands.append((head, text.strip()))
-
-    # An argument or an option stands on a line, and its text on those behind it.
-    def add(self, section, head, texts):
-        if not texts:
-            sys.exit(f"samples/help/{self.name}.txt: a line without a text: {head}")
-        listed = self.arguments if section == "Arguments:" else self.options
-        listed.append(Entry(head, " ".join(texts)))
-
-    def synopsis(self):
-        """The usage's words, with each option that may be left out in place of [OPTIONS]: (word,
-        kind).
-        """
-        words = [("alcrs", "command")] + ([(self.name, "command")] if self.name != "alcrs" else [])
-        needed = set(re.findall(r"--[\w-]+", self.usage))
-        for option in self.options:
-            if option.value and option.long_name() in needed:
-                words.append((f"{option.long_name()} {option.shown_value()}", "needed"))
-        for option in self.options:
-            if option.long_name() not in needed | {"--help", "--version"}:
-                words.append((f"{option.long_name()} {option.shown_value()}".strip(), "optional"))
-        for argument in self.arguments:
-            kind = "optional argument" if f"[{argument.value}]" in self.usage else "argument"
-            words.append((argument.value + ("..." if argument.is_repeated else ""), kind))
-        return words
 
     def file_arguments(self):
         """How many of the arguments are files; None where the last file may be repeated."""
@@ -190,96 +154,87 @@ def statuses(text):
     return [tuple(pair.split(" ", 1)) for pair in pairs]
 
 
-# ---- the man page
+# ---- the man pages
 
 def code(text):
     """Text that is typed or printed as it stands."""
-    for plain, escaped in (
-        ("\\", "\\e"), ("-", "\\-"), ("'", "\\(aq"), ("`", "\\(ga"), ("^", "\\(ha")
-    ):
-        text = text.replace(plain, escaped)
-    return text
+    return text.translate(ESCAPED)
+
+
+def bold(text):
+    return "\\fB" + code(text) + "\\fR"
 
 
 def prose(text):
-    """Text to read: what stands between backquotes is bold, options have their hyphens, and
-    sentences have lines.
+    """Text to read: what stands between backquotes or stars is bold, links are their words, options
+    have their hyphens, and sentences have lines.
     """
-    parts = text.replace("\\", "\\e").split("`")
-    for place, part in enumerate(parts):
-        if place % 2:
-            parts[place] = "\\fB" + part.replace("-", "\\-") + "\\fR"
-        else:
-            parts[place] = re.sub(
-                r"(?<![\w-])-(-[\w-]+|\w\b)",
-                lambda m: m.group(0).replace("-", "\\-"),
-                part,
-            )
-    return re.sub(r"(?<=[a-z0-9)RFT][.:]) (?=[A-Z]|\\fB)", "\n", "".join(parts))
+    text = re.sub(r"\*\*([^*`]+)\*\*", r"`\1`", text).replace("**", "")
+    parts = re.sub(r"\[([^\]]+)\]\([^)]+\)", r"\1", text).split("`")
+    parts[1::2] = map(bold, parts[1::2])
+    for place, part in list(enumerate(parts))[::2]:
+        part = part.replace("\\", "\\e").replace("^", "\\(ha")
+        option = r"(?<![\w-])-(-[\w-]+|\w\b)"
+        parts[place] = re.sub(option, lambda found: found.group().replace("-", "\\-"), part)
+    text = re.sub(r"(?<=[\w)][.:]) (?=[A-Z]|\\fB)", "\n", "".join(parts))
+    return re.sub(r"^(?=[.'])", r"\\&", text, flags=re.M)
+
+
+def named(entry, names):
+    """Names of an option or an argument, and its value."""
+    value = "\\fI" + code(entry.value) + "\\fR" if entry.value else ""
+    value += "..." if entry.is_repeated else ""
+    return "\\ ".join(part for part in (", ".join(map(bold, names)), value) if part)
 
 
 def synopsis_lines(help_):
-    """A command's synopsis, in lines that break between words alone."""
-    shown = []
-    for word, kind in help_.synopsis():
-        name, _, value = word.partition(" ")
-        if kind.endswith("argument"):
-            text = "\\fI" + code(name.removesuffix("...")) + "\\fR"
-            text += "..." if name.endswith("...") else ""
-            if kind.startswith("optional"):
-                text = "[" + text + "]"
-        elif kind == "command":
-            text = "\\fB" + code(name) + "\\fR"
+    """The usage's words, with each option that may be left out in place of [OPTIONS], in lines that
+    break between words alone.
+    """
+    needed, others = [], []
+    for option in (it for it in help_.options if "--help" not in it.names):
+        text = named(option, option.names[-1:])
+        if option.words:
+            text = f"{bold(option.long_name())}\\ {'|'.join(map(bold, option.words))}"
+        if f"{option.long_name()} " in help_.usage:
+            needed.append(text)
         else:
-            text = "\\fB" + code(name) + "\\fR"
-            if "|" in value:
-                choices = ["\\fB" + code(choice) + "\\fR" for choice in value.split("|")]
-                text += "\\ " + "|".join(choices)
-            elif value:
-                text += "\\ \\fI" + code(value) + "\\fR"
-            if kind == "optional":
-                text = "[" + text + "]"
-        shown.append(text)
-    count = 1 if help_.name == "alcrs" else 2
-    return [".HP 4", "\\ ".join(shown[:count])] + shown[count:]
+            others.append(f"[{text}]")
+    arguments = [
+        f"[{named(it, [])}]" if f"[{it.value}]" in help_.usage else named(it, [])
+        for it in help_.arguments
+    ]
+    return [".HP 4", f"\\fBalcrs\\ {help_.name}\\fR"] + needed + others + arguments
 
 
-def tagged(pairs):
-    """A list of tags, each with its text beside it."""
+def tagged(pairs, most=24):
+    """A list of tags, each with its text beside it, or below it where that is wider."""
     shown = [len(re.sub(r"\\f[BIR]|\\(?=[- ])", "", tag)) for tag, _ in pairs]
-    indent = min(max(shown) + 2, 24)
     lines = [".PD 0"]
     for tag, text in pairs:
-        lines += [f".TP {indent}", tag, prose(text)]
+        lines += [f".TP {min(max(shown) + 2, most)}", tag, text]
     return lines + [".PD"]
 
 
 def sentence(text):
     """A meaning as a sentence; the name of a command stays as it is typed."""
     is_name = (HELP / f"{text.split()[0]}.txt").is_file()
-    return (text if is_name else text[:1].upper() + text[1:]) + "."
+    return prose((text if is_name else text[:1].upper() + text[1:]) + ".")
 
 
-def status_lines(line):
-    return tagged([(f"\\fB{status}\\fR", sentence(meaning)) for status, meaning in statuses(line)])
-
-
-def tag_of(entry):
-    """The names of an option or an argument, and of its value."""
-    names = ", ".join("\\fB" + code(name) + "\\fR" for name in entry.names)
-    value = "\\fI" + code(entry.value) + "\\fR" if entry.value else ""
-    value += "..." if entry.value and entry.is_repeated else ""
-    return " ".join(part for part in (names, value) if part)
-
-
-def text_of(entry):
-    """The help of an option or an argument, with its words and its default as sentences."""
-    text = entry.text + "."
-    if entry.words:
-        text += " It is " + " or ".join(f"`{word}`" for word in entry.words) + "."
-    if entry.default:
-        text += f" Where it isn't given it is `{entry.default}`."
-    return text
+def listed(entries):
+    """A list of options or arguments: their names and values, and the help of each, with its words
+    and its default as sentences.
+    """
+    pairs = []
+    for entry in entries:
+        text = entry.text + "."
+        if entry.words:
+            text += " It is " + " or ".join(f"`{word}`" for word in entry.words) + "."
+        if entry.default:
+            text += f" Where it isn't given it is `{entry.default}`."
+        pairs.append((named(entry, entry.names), prose(text)))
+    return tagged(pairs) if pairs else []
 
 
 def body_lines(help_):
@@ -288,88 +243,132 @@ def body_lines(help_):
     """
     lines = []
     for is_list, group in itertools.groupby(help_.text, lambda line: line.startswith("  ")):
-        group = list(group)
         if is_list:
             pairs = [line.strip().split("  ", 1) for line in group]
-            printed = [("\\fB" + code(tag) + "\\fR", sentence(text.strip())) for tag, text in pairs]
+            printed = [(bold(tag), sentence(text.strip())) for tag, text in pairs]
             lines += [".RS 4"] + tagged(printed) + [".RE"]
-            continue
-        told = [line for line in group if not line.startswith("Statuses:")]
-        if told:
-            lines += [".PP", prose(" ".join(told))]
-        for line in group:
-            if line.startswith("Statuses:"):
-                lines += [".PP", "Statuses:", ".RS 4"] + status_lines(line) + [".RE"]
+        else:
+            lines += [".PP", prose(" ".join(group))]
     return lines
 
 
-def example_lines(help_):
-    lines = [".PP", "Example:" if len(help_.examples) == 1 else "Examples:", ".RS 4", ".nf"]
-    for example in help_.examples:
-        lines.append(code(example))
-    return lines + [".fi", ".RE"]
+def shown_lines(shown):
+    """What is typed and printed, as it stands."""
+    return [".PP", ".nf"] + [code(line) for line in shown] + [".fi"]
 
 
-def command_lines(help_):
-    lines = [f".SS alcrs {help_.name}"] + synopsis_lines(help_) + [".PP", prose(help_.about + ".")]
-    for title, entries in (("Arguments:", help_.arguments), ("Options:", help_.options)):
-        if entries:
-            tags = [(tag_of(entry), text_of(entry)) for entry in entries]
-            lines += [".PP", title, ".RS 4"] + tagged(tags) + [".RE"]
-    return lines + body_lines(help_) + example_lines(help_)
-
-
-def man_page(top, helps):
-    purpose = top.about.partition(":")[0]
-    told = [line for line in top.text if not line.startswith("Statuses:")]
-    help_synopsis = [".HP 4", f"\\fBalcrs\\fR\\ \\fB{HELP_COMMAND}\\fR", "[\\fICOMMAND\\fR]"]
+def page(name, number, about, sections):
+    """A page of the manual. A section is a title and its lines."""
     lines = [
-        f'.\\" {MADE_BY}.',
-        f'.TH ALCRS 1 "" "alcrs {version()}" "User Commands"',
+        f'.\\" {MADE_BY} and of documents.',
+        f'.TH {name.upper()} {number} "" "alcrs {version()}" "{MANUALS[number]}"',
         ".nh",
         ".ad l",
         ".SH NAME",
-        f"alcrs \\- {purpose[0].lower() + purpose[1:]}",
-        ".SH SYNOPSIS",
+        f"{code(name)} \\- {about[0].lower() + about[1:]}",
     ]
-    for help_ in helps:
-        lines += synopsis_lines(help_)
-    for option in top.options:
-        lines += [".HP 4", "\\fBalcrs\\fR\\ \\fB" + code(option.long_name()) + "\\fR"]
-    lines += help_synopsis
-    lines += [".SH DESCRIPTION", prose(top.about + "."), ".PP", prose(PURPOSE), ".SH COMMANDS"]
-    for help_ in helps:
-        lines += command_lines(help_)
-    lines += [f".SS alcrs {HELP_COMMAND}"] + help_synopsis + [".PP"]
-    lines.append(prose(dict(top.commands)[HELP_COMMAND] + "."))
-    lines.append(".SH OPTIONS")
-    lines += tagged([(tag_of(option), text_of(option)) for option in top.options])
-    lines.append(".SH EXIT STATUS")
-    for line in top.text:
-        if line.startswith("Statuses:"):
-            lines += status_lines(line)
-    for line in told:
-        lines += [".PP", prose(line)]
-    lines += [".PP", prose(FAULTS_POINTER), ".SH FILES"]
-    lines += tagged([(f"\\fI{name}\\fR", text) for name, text in FILES])
-    lines += [".PP", prose(FILES_POINTER), ".SH EXAMPLES"]
-    lines += [".nf"] + [code(example) for example in top.examples] + [".fi", ".SH SEE ALSO"]
-    lines += "\n.PP\n".join(prose(one) for one in SEE_ALSO).splitlines()
-    return "\n".join(folded(lines)) + "\n"
+    for title, body in sections:
+        if body:
+            lines += [f".SH {title}"] + body[body[0] == ".PP":]
+    return "\n".join(lines) + "\n"
 
 
-def folded(lines):
-    """Long lines of text in shorter ones; where a line is shown as it stands, it stays."""
-    is_shown = is_tag = False
-    for line in "\n".join(lines).splitlines():
-        if line in (".nf", ".fi"):
-            is_shown = line == ".nf"
-        if line.startswith(".") or is_shown or is_tag:
-            yield line
+def command_page(help_):
+    return page(f"alcrs-{help_.name}", 1, help_.about, [
+        ("SYNOPSIS", synopsis_lines(help_)),
+        ("DESCRIPTION", body_lines(help_)),
+        ("ARGUMENTS", listed(help_.arguments)),
+        ("OPTIONS", listed(help_.options)),
+        ("EXIT STATUS", tagged(help_.statuses)),
+        ("EXAMPLES", shown_lines(help_.examples)),
+        ("SEE ALSO", [prose("`alcrs`(1), `alcrs-answers`(7)")]),
+    ])
+
+
+def overview(top):
+    commands = [
+        (prose(f"`alcrs {name}`" if name == HELP_COMMAND else f"`alcrs-{name}`(1)"), sentence(text))
+        for name, text in top.commands
+    ]
+    forms = ["\\fICOMMAND\\fR", "\\fBhelp\\fR [\\fICOMMAND\\fR]"]
+    forms += [bold(option.long_name()) for option in top.options]
+    text = page("alcrs", 1, top.about.partition(":")[0], [
+        ("SYNOPSIS", ["\n.br\n".join(f"\\fBalcrs\\fR {form}" for form in forms)]),
+        ("DESCRIPTION", [prose(top.about + ".")] + of_markdown(blocks("README.md", "alcrs")[:1])),
+        ("COMMANDS", tagged(commands)),
+        ("OPTIONS", listed(top.options)),
+        ("EXIT STATUS", tagged(top.statuses) + body_lines(top)),
+        ("TERMS", of_markdown(blocks("docs/FORMATS.md", "Terms"))),
+        ("INPUTS", of_markdown(blocks("docs/FORMATS.md", "Inputs"))),
+        ("OUTPUTS", of_markdown(blocks("docs/FORMATS.md", "Outputs"))),
+        ("EXAMPLES", shown_lines(top.examples)),
+        ("SEE ALSO", [prose(f"`alcrs-answers`(7); {DOCUMENTS}; {STANDARDS}.")]),
+    ])
+    if len(text.splitlines()) > MOST_LINES:
+        sys.exit(f"alcrs(1) has {len(text.splitlines())} lines, and may have {MOST_LINES}")
+    return text
+
+
+def answers():
+    return page("alcrs-answers", 7, "What each answer of alcrs means, and what to do", [
+        ("DESCRIPTION", of_markdown(blocks("docs/OPERATING.md", "When the answer is no"))),
+        ("CODES", [prose("When each is printed. `alcrs`(1) has the terms."), ".PP"] + codes()),
+        ("SEE ALSO", [prose(f"`alcrs`(1); {DOCUMENTS}.")]),
+    ])
+
+
+def codes():
+    """The rows of docs/FORMATS.md that have codes: these, and the cell that says when they come."""
+    pairs = []
+    for block in re.split(r"\n\n+", (ROOT / "docs/FORMATS.md").read_text(encoding="utf-8")):
+        head, *rows = cells(block) if block.startswith("|") else [[]]
+        for row in rows:
+            found = [f"`{one}`" for one in dict.fromkeys(CODE.findall(" ".join(row)))]
+            if found:
+                without = [it for it in zip(head, row) if not CODE.search(it[1])]
+                title, text = (without or [(head[0], row[0])])[0]
+                text = f"{title} {text}" if title.startswith("the ") else text
+                pairs.append((prose(", ".join(found)), prose(text)))
+    return tagged(pairs)
+
+
+# ---- Markdown
+
+def blocks(name, title):
+    """What stands in a document between a heading and the next: paragraphs, tables, code."""
+    text = (ROOT / name).read_text(encoding="utf-8")
+    found = re.search(rf"^#+ {re.escape(title)}\n+(.*?)\n+(?=#+ |\Z)", text, re.M | re.S)
+    if not found:
+        sys.exit(f"{name}: no heading {title}")
+    return re.split(r"\n\n+", found.group(1))
+
+
+def cells(table):
+    """The rows of a table, without the rule below its head."""
+    rows = [re.split(r"(?<!\\)\|", row)[1:-1] for row in table.splitlines()]
+    rows = [[cell.strip().replace("\\|", "|") for cell in row] for row in rows]
+    return rows[:1] + rows[2:]
+
+
+def of_markdown(texts):
+    lines = []
+    for text in texts:
+        if text.startswith("```"):
+            lines += shown_lines(text.replace("./alcrs", "alcrs").splitlines()[1:-1])
+        elif text.startswith("|"):
+            head, *rows = cells(text)
+            pairs = []
+            for tag, *told in rows:
+                if told[1:]:
+                    told = [f"{title.capitalize()}: {it}." for title, it in zip(head[1:], told)]
+                pairs.append((prose(tag), "\n.br\n".join(map(prose, told))))
+            lines += [".PP"] + tagged(pairs, 24 if len(head) == 2 else 4)
+        elif text.startswith("- "):
+            for item in re.split(r"\n- ", text[2:]):
+                lines += [".IP * 2", prose(" ".join(item.split()))]
         else:
-            for part in textwrap.wrap(line, 77, break_long_words=False, break_on_hyphens=False):
-                yield "\\&" + part if part.startswith((".", "'")) else part
-        is_tag = line.startswith(".TP")
+            lines += [".PP", prose(" ".join(text.split()))]
+    return lines
 
 
 # ---- completions
@@ -621,25 +620,26 @@ def main():
     if sys.argv[1:] not in ([], ["--write"]):
         sys.exit("ci/manual.py [--write]")
     top, helps = read_helps()
-    texts = {
-        "docs/alcrs.1": man_page(top, helps),
+    texts = {f"docs/man/alcrs-{help_.name}.1": command_page(help_) for help_ in helps} | {
+        "docs/man/alcrs.1": overview(top),
+        "docs/man/alcrs-answers.7": answers(),
         "completions/alcrs.bash": bash_completion(top, helps),
         "completions/_alcrs": zsh_completion(top, helps),
         "completions/alcrs.fish": fish_completion(top, helps),
     }
+    texts = {ROOT / name: text for name, text in texts.items()}
+    there = {path: path.read_text() for name in ("docs/man/*.[17]", "completions/*alcrs*")
+             for path in ROOT.glob(name)}
+    others = sorted(path for path in texts.keys() | there if texts.get(path) != there.get(path))
     if sys.argv[1:] == ["--write"]:
-        for name, text in texts.items():
-            (ROOT / name).parent.mkdir(exist_ok=True)
-            (ROOT / name).write_text(text)
-        return
-    others = [
-        name
-        for name, text in texts.items()
-        if not (ROOT / name).is_file() or (ROOT / name).read_text() != text
-    ]
-    if others:
-        sys.exit(f"{', '.join(others)}: not what samples/help says: run ci/manual.py --write")
-    print("docs/alcrs.1 and completions/ say what samples/help says: same")
+        for path in others:
+            path.parent.mkdir(exist_ok=True)
+            path.write_text(texts[path]) if path in texts else path.unlink()
+    elif others:
+        names = ", ".join(str(path.relative_to(ROOT)) for path in others)
+        sys.exit(f"{names}: not what help texts and documents say: run ci/manual.py --write")
+    else:
+        print("docs/man/ and completions/ say what help texts and documents say: same")
 
 
 if __name__ == "__main__":

@@ -16,7 +16,7 @@ PROGRAM = "crates/request/src/grammar.rt", r'const VERSION: &str = "([\w.]+)"'
 OF_PROGRAM = [
     ("samples/help/version.txt", r"^alcrs (\S+)$"),
     ("crates/transcripts/data/lines.txt", r"^\| alcrs (\d\S*)$"),
-    ("docs/alcrs.1", r'^\.TH ALCRS 1 "" "alcrs (\S+)"'),
+    ("docs/man/alcrs.1", r'^\.TH ALCRS 1 "" "alcrs (\S+)"'),
     ("docs/FORMATS.md", r"`alcrs (\d[\d.]*)`"),
     ("CHANGELOG.md", r"\A.*?^## (\d[\d.]*)"),
 ]
