@@ -24,11 +24,13 @@ pub fn explain<'a, R: Files<File = File>>(
     let case = Case::new(rt, alloc, request, failure);
     match why {
         Ok(Why::Plain) => Ok(None),
-        Ok(Why::Yes {
-            repeats,
-            margin,
-            burst,
-        }) => case.yes(repeats, margin, burst),
+        Ok(
+            Why::Yes {
+                repeats,
+                margin,
+                burst,
+            },
+        ) => case.yes(repeats, margin, burst),
         Ok(Why::Unprotected) => case.unprotected(),
         Ok(Why::No(reason)) => case.no(reason),
         Ok(Why::Strays) => case.strays(),

@@ -94,7 +94,13 @@ fn read_and_answer<'a, H: Host>(
     }
     let object = read_object(alloc, host, request.object)?;
     let certificate = read_certificate(alloc, host, request.certificate)?;
-    answer_of(alloc, &mut session, object.as_slice(), &certificate, request)
+    answer_of(
+        alloc,
+        &mut session,
+        object.as_slice(),
+        &certificate,
+        request,
+    )
 }
 
 /// Opens a certificate that is read at offsets. That a pipe can't be read is told as its fault.
@@ -264,11 +270,7 @@ fn answer_verdict<'a>(
 }
 
 // What is told of a verdict, by what is asked for.
-fn told_of(
-    alloc: Global,
-    request: &CheckRequest<'_>,
-    verdict: &Verdict,
-) -> Result<Done, AllocError>
+fn told_of(alloc: Global, request: &CheckRequest<'_>, verdict: &Verdict) -> Result<Done, AllocError>
     requires { OnYes verdict.now CanBeSummed }
     ensures text { IfOk result (λ done.
         TellsVerdict request.now.summary verdict.now (text_of done.told)) }

@@ -93,7 +93,7 @@ pub fn write_output<'a, H: Host>(
     ensures silent { IsSilent (H.world host.old) (H.world host.new) }
     ensures created { OnOk result
         ((H.world host.new).created
-            ≡ one_more output.now.name.now output.now.no_clobber (H.world host.old).created) }
+        ≡ one_more output.now.name.now output.now.no_clobber (H.world host.old).created) }
 {
     let mut file = host.create_file(output.name, output.no_clobber)?;
     let written = match write_all(&mut file, bytes) {

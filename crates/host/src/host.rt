@@ -70,7 +70,7 @@ pub trait Host {
         ensures silent { IsSilent (world self.old) (world self.new) }
         ensures created { OnOk result
             ((world self.new).created
-                ≡ one_more name.now no_clobber (world self.old).created) }
+            ≡ one_more name.now no_clobber (world self.old).created) }
         ensures none { OnErr result ((world self.new).created ≡ (world self.old).created) };
 
     /// Puts what was written under its name, in the place of the file that was there. `Uncreated`

@@ -32,7 +32,7 @@ use Rattle.receiver.specs.declared.receiving.Receiving.{Receiving}
 use Rattle.receiver.specs.declared.file_receiver.FileReceiver.{FileReceiver}
 use Rattle.request.specs.declared.requests.FollowRequest.{FollowRequest}
 use Rattle.request.specs.declared.requests.Request.TheVariants.{Follow}
-use Rattle.host.specs.World.{Reading, Writing, Files, World, Holds, IsBlank, IsSilent, KeepsFiles, MayFail, one_more}
+use Rattle.host.specs.World.{Reading as ReadingFile, Writing, Files, World, Holds, IsBlank, IsSilent, KeepsFiles, MayFail, one_more}
 use Rattle.commands.specs.Inputs.{AStream, Opened, HasValue}
 use Rattle.commands.specs.Lines.{line_of, answer_text}
 use Rattle.commands.specs.Commands.{Outcome, answer_status, object_of}
@@ -341,17 +341,17 @@ module _ {W : Type 0} {w : Ghosts W} (r : FollowRequest) (old : World) where
 
   -- no frame comes, or none can be read
   pub cut : (mid : World) (left rest : Option (List ℕ)) (failed : Bool) (f : Followed W w) → IsFollowed r old mid f (IsShort r left f) → (fault : Fault) → IsFrameUnread left rest failed fault
-      → (fault ≡ Frame frame_fault.Io → MayFail old (Reading r.session.now)) → IsUnread r old mid f fault
+      → (fault ≡ Frame frame_fault.Io → MayFail old (ReadingFile r.session.now)) → IsUnread r old mid f fault
   cut mid left rest failed f is fault why fails = go fault why fails
     where
       here : IsFollowed r old mid f (HasHeardSome r left)
       here = some_heard mid left f is
 
-      frame_cut : (e : FrameFault) → IsReadFault e left rest failed → (Frame e ≡ Frame frame_fault.Io → MayFail old (Reading r.session.now)) → (e ≡ frame_fault.Io → MayFail old (Reading r.session.now)) × (left : Option (List ℕ)) × (rest : Option (List ℕ))
+      frame_cut : (e : FrameFault) → IsReadFault e left rest failed → (Frame e ≡ Frame frame_fault.Io → MayFail old (ReadingFile r.session.now)) → (e ≡ frame_fault.Io → MayFail old (ReadingFile r.session.now)) × (left : Option (List ℕ)) × (rest : Option (List ℕ))
           × (failed : Bool) × IsReadFault e left rest failed × IsFollowed r old mid f (HasHeardSome r left)
       frame_cut e why fails = (λ same. fails (ap Frame same), left, rest, failed, why, here)
 
-      go : (fault : Fault) → IsFrameUnread left rest failed fault → (fault ≡ Frame frame_fault.Io → MayFail old (Reading r.session.now)) → IsUnread r old mid f fault
+      go : (fault : Fault) → IsFrameUnread left rest failed fault → (fault ≡ Frame frame_fault.Io → MayFail old (ReadingFile r.session.now)) → IsUnread r old mid f fault
       go Memory why fails = (left, here)
       go (Frame frame_fault.NoMemory) why fails = absurd why
       go (Frame frame_fault.Io) why fails = frame_cut frame_fault.Io why fails
@@ -404,7 +404,7 @@ module _ {W : Type 0} {w : Ghosts W} (r : FollowRequest) (old : World) where
 
   -- no more was read, and the output is given up
   module _ (mid : World) (f : Followed W w) (new : World) (kept : KeepsFiles mid new) (silent : IsSilent mid new) where
-    by_frame : (e : FrameFault) → (e ≡ frame_fault.Io → MayFail old (Reading r.session.now)) → (left rest : Option (List ℕ)) (failed : Bool) → IsReadFault e left rest failed → IsFollowed r old mid f (HasHeardSome r left)
+    by_frame : (e : FrameFault) → (e ≡ frame_fault.Io → MayFail old (ReadingFile r.session.now)) → (left rest : Option (List ℕ)) (failed : Bool) → IsReadFault e left rest failed → IsFollowed r old mid f (HasHeardSome r left)
         → IsUndone old new (Follow r) (stopped_by (Frame e) f.said)
     by_frame e fails left rest failed why is = stopped_for mid f left is new kept silent (Frame e)
         (by_refused old new (Follow r) is.lines (Frame e) (left, rest, failed, why, fails, is.heard))

@@ -15,7 +15,7 @@ use Rattle.cert.proofs.FromReader.{consumes_one}
 use Rattle.alc.specs.Reading.{Reading, Reads}
 use Rattle.request.specs.declared.requests.ShowRequest.{ShowRequest}
 use Rattle.request.specs.declared.requests.Request.TheVariants.{Show}
-use Rattle.host.specs.World.{Reading, Files, Holds, World, KeepsFiles, MayFail}
+use Rattle.host.specs.World.{Reading as ReadingFile, Files, Holds, World, KeepsFiles, MayFail}
 use Rattle.commands.specs.Inputs.{ASession, AStream, Datagrams, Opened, HasValue, IsUnread}
 use Rattle.commands.specs.Lines.{line_of, numbered, reading_text}
 use Rattle.commands.specs.Commands.{shown_status, AreReadAs, TellsDatagrams, told_before}
@@ -69,7 +69,7 @@ one_longer rs r place next at is = let l = length-append rs (r ∷ []) in omega 
 
 -- behind frames that were read none came, for this reason
 pub read_stops : (w : World) (name : List ℕ) (opened left rest : Option (List ℕ)) (failed : Bool) (ds : List (List ℕ)) (e : FrameFault) → HasValue w.files (AStream name) (Opened opened)
-    → HasRead opened left ds → IsReadFault e left rest failed → (e ≡ frame_fault.Io → MayFail w (Reading name)) → IsUnread w (ASession name) (Frame e)
+    → HasRead opened left ds → IsReadFault e left rest failed → (e ≡ frame_fault.Io → MayFail w (ReadingFile name)) → IsUnread w (ASession name) (Frame e)
 read_stops w name opened left rest failed ds frame_fault.CutLength held read why fails =
     holds_told w.files name opened (StopsAt frame_fault.CutLength) held (session_fault frame_fault.CutLength opened left rest failed ds read.consumed read.each why)
 read_stops w name opened left rest failed ds frame_fault.CutDatagram held read why fails =
@@ -86,7 +86,7 @@ none_had w r fault why = stopped w (Show r) fault (by_refused w w (Show r) [] fa
 
 -- a file that was gone over holds no bytes that stop
 pub gone_over : (w : World) (name : List ℕ) (content opened : Option (List ℕ)) → Holds w.files name (λ bytes. content ≡ Some bytes) → HasValue w.files (AStream name) (Opened opened) → AreFrames content
-    → (e : FrameFault) → IfSome opened (StopsAt e) → MayFail w (Reading name)
+    → (e : FrameFault) → IfSome opened (StopsAt e) → MayFail w (ReadingFile name)
 gone_over w name content opened given held are e stops = inl (go w.files content opened given held are stops)
   where
     go : (files : Option Files) (content opened : Option (List ℕ)) → Holds files name (λ bytes. content ≡ Some bytes) → Holds files name (λ bytes. opened ≡ Some bytes) → AreFrames content
@@ -127,7 +127,7 @@ module _ (old : World) (r : ShowRequest) (each : r.summary ≡ false) (opened : 
       record { because = why; before = inr (opened, left, rs, held, read, told rs); files = files.files; created = inl files.created }
 
   -- behind lines no frame came
-  cut : (e : FrameFault) → IsCutBehind e opened old new → (e ≡ frame_fault.Io → MayFail old (Reading r.session.now)) → MayFail old (Reading r.session.now) → IsUndone old new (Show r) (ByFault (Frame e))
+  cut : (e : FrameFault) → IsCutBehind e opened old new → (e ≡ frame_fault.Io → MayFail old (ReadingFile r.session.now)) → MayFail old (ReadingFile r.session.now) → IsUndone old new (Show r) (ByFault (Frame e))
   cut e (left, rs, ((ds, read, all), printed), rest, failed, why) fails may = (
     numbered reading_text 0 rs,
     printed,
@@ -143,11 +143,11 @@ module _ (old : World) (r : ShowRequest) (each : r.summary ≡ false) (opened : 
   stops frame_fault.CutDatagram io memory (left, rs, ((ds, read, all), printed), rest, failed, why) = session_fault frame_fault.CutDatagram opened left rest failed ds read.consumed read.each why
   stops frame_fault.TooLong io memory (left, rs, ((ds, read, all), printed), rest, failed, why) = session_fault frame_fault.TooLong opened left rest failed ds read.consumed read.each why
 
-  module _ (whole : (e : FrameFault) → IfSome opened (StopsAt e) → MayFail old (Reading r.session.now)) where
+  module _ (whole : (e : FrameFault) → IfSome opened (StopsAt e) → MayFail old (ReadingFile r.session.now)) where
     bytes : (e : FrameFault) → e ≢ frame_fault.Io → e ≢ frame_fault.NoMemory → IsCutBehind e opened old new → IsUndone old new (Show r) (ByFault (Frame e))
     bytes e io memory why = cut e why (λ is. absurd (io is)) (whole e (stops e io memory why))
 
-    unshown : (stop : Stop) → IsUnshown opened old new stop → (stop ≡ ByFault (Frame frame_fault.Io) → MayFail old (Reading r.session.now)) → IsUndone old new (Show r) stop
+    unshown : (stop : Stop) → IsUnshown opened old new stop → (stop ≡ ByFault (Frame frame_fault.Io) → MayFail old (ReadingFile r.session.now)) → IsUndone old new (Show r) stop
     unshown (ByFault (Frame frame_fault.NoMemory)) why fails = absurd why
     unshown (ByFault (Frame frame_fault.Io)) why fails = cut frame_fault.Io why (λ _. fails refl) (fails refl)
     unshown (ByFault (Frame frame_fault.CutLength)) why fails = bytes frame_fault.CutLength (λ e. cc) (λ e. cc) why
@@ -164,6 +164,6 @@ module _ (old : World) (r : ShowRequest) (each : r.summary ≡ false) (opened : 
     unshown Unprinted why fails = record { failed = why; done = inr (files.files, files.created) }
 
     pub is_unshown : (result : Result Ended Stop) (sound : Bool) → IfErr result (IsUnshown opened old new)
-        → IfErr result (λ (stop : Stop). stop ≡ ByFault (Frame frame_fault.Io) → sound ≡ false) → (sound ≡ false → MayFail old (Reading r.session.now)) → IfErr result (IsUndone old new (Show r))
+        → IfErr result (λ (stop : Stop). stop ≡ ByFault (Frame frame_fault.Io) → sound ≡ false) → (sound ≡ false → MayFail old (ReadingFile r.session.now)) → IfErr result (IsUndone old new (Show r))
     is_unshown (Ok status) sound why unsound fails = tt
     is_unshown (Err stop) sound why unsound fails = unshown stop why (λ is. fails (unsound is))

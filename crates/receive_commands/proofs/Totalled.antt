@@ -12,7 +12,7 @@ use Rattle.inventory.specs.Tells.{Tells}
 use Rattle.inventory.specs.declared.collecting.Summary.{Summary}
 use Rattle.request.specs.declared.requests.ShowRequest.{ShowRequest}
 use Rattle.request.specs.declared.requests.Request.TheVariants.{Show}
-use Rattle.host.specs.World.{Reading, World, MayFail}
+use Rattle.host.specs.World.{Reading as ReadingFile, World, MayFail}
 use Rattle.commands.specs.Inputs.{AStream, Datagrams, Opened, HasValue}
 use Rattle.commands.specs.Commands.{shown_status, TellsDatagrams}
 use Rattle.commands.specs.Doing.{HasMade, HasStopped, text_of}
@@ -67,10 +67,10 @@ module _ (w : World) (r : ShowRequest) (asked : r.summary ≡ true) (opened : Op
     silent = refl;
   }
 
-  cut : (e : FrameFault) → IsCutBehind e opened → (e ≡ frame_fault.Io → MayFail w (Reading r.session.now)) → HasStopped w w (Show r) (Frame e)
+  cut : (e : FrameFault) → IsCutBehind e opened → (e ≡ frame_fault.Io → MayFail w (ReadingFile r.session.now)) → HasStopped w w (Show r) (Frame e)
   cut e (left, rs, (ds, read, all), rest, failed, why) fails = none_had w r (Frame e) (read_stops w r.session.now opened left rest failed ds e held read why fails)
 
-  pub uncounted : (fault : Fault) → IsUncounted opened fault → (fault ≡ Frame frame_fault.Io → MayFail w (Reading r.session.now)) → HasStopped w w (Show r) fault
+  pub uncounted : (fault : Fault) → IsUncounted opened fault → (fault ≡ Frame frame_fault.Io → MayFail w (ReadingFile r.session.now)) → HasStopped w w (Show r) fault
   uncounted (Frame frame_fault.NoMemory) why fails = absurd why
   uncounted (Frame frame_fault.Io) why fails = cut frame_fault.Io why (λ _. fails refl)
   uncounted (Frame frame_fault.CutLength) why fails = cut frame_fault.CutLength why (λ e. absurd (cc))

@@ -2,9 +2,7 @@
 //!
 //! ```
 //! let line = command_line(alloc, words);
-//! if let Ok(line) = &line {
-//!     begin(rt, line, host);
-//! }
+//! carry_out(alloc, &line, host, err).status
 //! ```
 //!
 //! - `requests`: the commands with their values.
