@@ -1,10 +1,9 @@
-//! The check of a session, and a twin where it finds a block short.
+//! The check of a session.
 ghost use Rattle.std.specs.Prelude.{IfOk, IfErr};
 ghost use Rattle.reception.specs.Headline.{DecodesWhereEnough, TwinWhereShort, TellsElse};
 ghost use Rattle.cert.specs.Bearing.{BearsLosses};
 ghost use Rattle.cert.specs.Fed.{IsFed};
 ghost use Rattle.cert.specs.Report.{IsReport, OnYes};
-ghost use Rattle.cert.specs.Twins.{IsShortIn, IsTwinOfSession};
 ghost use Rattle.cert.specs.Verdict.{IsVerdict};
 
 use crate::checker::Checker;
@@ -84,27 +83,5 @@ pub fn check(
     match fed(alloc, session, object, certificate, identity)? {
         Ok(checker) => checker.verdict(alloc),
         Err(reason) => Ok(Verdict::No(reason)),
-    }
-}
-
-/// A twin of the object where the check of the identity says `Thin` of this block, as it needs:
-/// another object of the certificate's FTI that agrees with all of the identity's packets in the
-/// session. Want of memory is the only error.
-pub fn session_twin(
-    alloc: Global,
-    session: &Session,
-    object: &[u8],
-    certificate: &Certificate,
-    block: u32,
-    identity: Identity,
-) -> Result<Vec<u8>, AllocError>
-    requires { IsShortIn identity session.now object.now certificate.now block }
-    ensures { IfOk result (λ other.
-        IsTwinOfSession identity certificate.now.fti block session.now object.now other.items) }
-{
-    match fed(alloc, session, object, certificate, identity)? {
-        Ok(checker) => checker.twin(alloc, block),
-        // The reason would be another one.
-        Err(_) => Err(AllocError),
     }
 }

@@ -43,7 +43,7 @@ mod twins;
 mod verdict;
 
 pub use checker::Checker;
-pub use checking::{check, session_twin};
+pub use checking::check;
 pub use fault::CheckFault;
 pub use from_reader::check_from;
 pub use laws::{first_column, first_reason, one_verdict, own_name_changes_nothing, reason_order};

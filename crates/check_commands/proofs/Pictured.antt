@@ -29,7 +29,7 @@ use Rattle.commands.specs.Outcomes.{IsOutput, MayCreate}
 use Rattle.commands.specs.Doing.{text_of, HasMade}
 use Rattle.check_commands.specs.Drawing.{HasDrawn, IsSurveyed}
 use Rattle.file_check.specs.Files.{IsVerdictIn, IsVerdictOnSome}
-use Rattle.std.specs.Prelude.{IfOk}
+use Rattle.std.specs.Prelude.{IfOk, string_bytes}
 use Rattle.commands.specs.declared.fault.Fault.{Fault}
 use Rattle.check_commands.specs.Checks.{OfFiles, TellsCheck, TellsRequest}
 use Rattle.check_commands.specs.Summing.{CanBeSummed}
@@ -52,8 +52,8 @@ output_named no_clobber name = record { name = name; no_clobber = no_clobber }
 
 -- what was drawn was asked for, and is a picture
 asked : (p : Option (Bor (List ℕ))) (no_clobber : Bool) (v : Verdict) (drawn : Drawn) → HasDrawn p v (Some drawn)
-    → (option_map (output_named no_clobber) p ≡ Some (output_named no_clobber drawn.name)) × ((bytes : List ℕ) → IsDrawn p v (Some bytes))
-asked (Some name) no_clobber (Yes report) drawn h = (ap (λ n. Some (output_named no_clobber n)) (sym h), λ bytes. refl)
+    → (option_map (output_named no_clobber) p ≡ Some (output_named no_clobber drawn.name)) × IsDrawn p v (Some (string_bytes drawn.text))
+asked (Some name) no_clobber (Yes report) drawn h = (ap (λ n. Some (output_named no_clobber n)) (sym h.0), h.1)
 asked (Some name) no_clobber (No reason) drawn h = absurd (cc)
 asked None no_clobber v drawn h = absurd (cc)
 
@@ -100,21 +100,21 @@ module _ (old new : World) (r : CheckRequest) (done : Done) (drawn : Drawn) (tel
   pub named : output_of (Check r) ≡ Some (output_named r.no_clobber drawn.name)
   named = (asked r.picture r.no_clobber (verdict_of old.files r told_of_yes tells) drawn (drawn_of old.files r told_of_yes tells)).0
 
-  gives : (bytes : List ℕ) → Gives (Check r) (values old.files r told_of_yes tells) (outcome bytes)
-  gives bytes = given old.files r told_of_yes tells (Some bytes) ((asked r.picture r.no_clobber (verdict_of old.files r told_of_yes tells) drawn (drawn_of old.files r told_of_yes tells)).1 bytes)
+  gives : Gives (Check r) (values old.files r told_of_yes tells) (outcome (string_bytes drawn.text))
+  gives = given old.files r told_of_yes tells (Some (string_bytes drawn.text)) (asked r.picture r.no_clobber (verdict_of old.files r told_of_yes tells) drawn (drawn_of old.files r told_of_yes tells)).1
 
   pub may_draw : MayCreate old.files (Check r)
-  may_draw = (values old.files r told_of_yes tells, outcome [], [], have_values old.files r told_of_yes tells, gives [], refl)
+  may_draw = (values old.files r told_of_yes tells, outcome (string_bytes drawn.text), string_bytes drawn.text, have_values old.files r told_of_yes tells, gives, refl)
 
-  pub pictured : (bytes : List ℕ) → Replaces old.files new.files drawn.name.now bytes → new.created ≡ one_more drawn.name.now r.no_clobber old.created → IsFree old.files drawn.name.now r.no_clobber → new.printed ≡ old.printed
+  pub pictured : Replaces old.files new.files drawn.name.now (string_bytes drawn.text) → new.created ≡ one_more drawn.name.now r.no_clobber old.created → IsFree old.files drawn.name.now r.no_clobber → new.printed ≡ old.printed
       → HasMade old new (Check r) done
-  pictured bytes replaced created free silent = record {
-    outcome = outcome bytes;
+  pictured replaced created free silent = record {
+    outcome = outcome (string_bytes drawn.text);
     makes = record {
       values = values old.files r told_of_yes tells;
       read = have_values old.files r told_of_yes tells;
-      gives = gives bytes;
-      made = subst (λ (n : Option Output). IsOutput old new n (Some bytes)) (sym named) (replaced, created, free);
+      gives = gives;
+      made = subst (λ (n : Option Output). IsOutput old new n (Some (string_bytes drawn.text))) (sym named) (replaced, created, free);
     };
     text = refl;
     status = refl;

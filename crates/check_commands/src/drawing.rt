@@ -1,5 +1,6 @@
 //! The picture of a yes.
-ghost use Rattle.std.specs.Prelude.{IfOk};
+ghost use Rattle.std.specs.Prelude.{IfOk, string_bytes};
+ghost use Rattle.commands.specs.Commands.{IsPictureOf};
 ghost use Rattle.check_commands.specs.Drawing.{HasDrawn, IsSurveyed};
 
 use cert::{Report, Survey, Verdict};
@@ -46,7 +47,9 @@ fn sheet_text(
     object_length: u64,
     report: &Report,
     survey: &Survey,
-) -> Result<String, AllocError> {
+) -> Result<String, AllocError>
+    ensures { IfOk result (λ text. IsPictureOf report.now (string_bytes text)) }
+{
     let sheet = Sheet {
         session: request.session,
         object: request.object,

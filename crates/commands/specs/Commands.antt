@@ -1,6 +1,6 @@
 -- What each command gives of what it reads.
 use Rattle.std.specs.Prelude.{◌≡◌, ◌⊎◌, ◌<◌, ◌≤◌, ℕ, Bool, true, false, List, []}
-use Rattle.std.specs.Prelude.{◌∷◌, ◌++◌, Option, Some, None, IsSome, IfSome, length, map}
+use Rattle.std.specs.Prelude.{◌∷◌, ◌++◌, Option, Some, None, IfSome, length, map}
 use Rattle.std.specs.Prelude.{option_map, codes, Ok, Err, ⊤}
 use Rattle.std.specs.Borrow.{Bor}
 use Rattle.lists.specs.Selection.{rest}
@@ -27,6 +27,7 @@ use Rattle.cert.specs.Verdict.{IsVerdict, GivesObject}
 use Rattle.certificate.specs.declared.certificate.CertFault.TheVariants.{Io as CertificateIo}
 use Rattle.certificate.specs.declared.certificate.CertFault.TheVariants.{OtherIdentity}
 use Rattle.cert.specs.declared.verdict.Reason.TheVariants.{Thin}
+use Rattle.cert.specs.declared.verdict.Report.{Report}
 use Rattle.cert.specs.declared.verdict.Verdict.{Verdict}
 use Rattle.cert.specs.declared.verdict.Verdict.TheVariants.{Yes, No}
 use Rattle.encoder.specs.Sending.{most_symbol_bytes, CanBeSent, IsSessionOf, pairs}
@@ -42,6 +43,7 @@ use Rattle.request.specs.declared.requests.Request.TheVariants.{Convert, Decode,
 use Rattle.request.specs.declared.requests.Request.TheVariants.{Salvage, Join}
 pub use Rattle.request.specs.Outputs.{output_of}
 use Rattle.host.specs.World.{World, Holds, MayFail, Reading as ReadingFile}
+use Rattle.picture.specs.Sheets.{IsPicture}
 use Rattle.commands.specs.Inputs.{Input, AnObject, ASession, ACertificate, AStream, APlaces, Value}
 use Rattle.commands.specs.Inputs.{Bytes, Datagrams, Polynomials, Opened, Places}
 use Rattle.commands.specs.Inputs.{AreThere, HasValue, HaveValues, IsUnread}
@@ -116,9 +118,15 @@ abbrev pub TellsVerdict : Bool → Verdict → List ℕ → Type 0
 TellsVerdict true (Yes report) text = IsSummary report text
 TellsVerdict summary verdict text = text ≡ verdict_text verdict
 
--- a picture is there where one is asked for and the answer is yes; nothing is told of what it shows
+-- the picture of a report, with its margin, its burst and its kill
+abbrev pub IsPictureOf : Report → List ℕ → Type 0
+IsPictureOf report text =
+    IsPicture report.margin report.burst (length report.kill.items) report.kill_block text
+
+-- a picture is there where one is asked for and the answer is yes
 abbrev pub IsDrawn : Option (Bor (List ℕ)) → Verdict → Option (List ℕ) → Type 0
-IsDrawn (Some name) (Yes report) output = IsSome output
+IsDrawn (Some name) (Yes report) (Some text) = IsPictureOf report text
+IsDrawn (Some name) (Yes report) None = ⊥
 IsDrawn picture verdict output = output ≡ None
 
 -- where a block is short, another object, which is such

@@ -1,4 +1,5 @@
-use Rattle.std.proofs.Common.{Option, ap, option_map, subst}
+use Rattle.std.proofs.Common.{ℕ, List, Option, ap, option_map, subst}
+use Rattle.host.specs.World.{Replaces}
 use Rattle.request.specs.declared.requests.Output.{Output}
 use Rattle.request.specs.declared.requests.Request.TheVariants.{Check}
 use Rattle.check_commands.specs.Checks.{TellsRequest}
@@ -27,7 +28,9 @@ returns-in_ok-write_output-in-Some-clause-ok g c =
     let r = c.args.request.now in
     let done = c.in_ok-done.field-0.done in
     let tells = subst (λ (p : Option Drawn). TellsRequest w.files r (record { done = done; picture = p })) c.in-Some.is c.in_ok-done.ensures.ok in
-    pictured w (g.H.Host.world c.write_output.new.host) r done c.in-Some.drawn tells _ c.in_ok-write_output-in-Some.ensures.made
+    let new = g.H.Host.world c.write_output.new.host in
+    let made = subst (λ (bytes : List ℕ). Replaces w.files new.files c.in-Some.drawn.name.now bytes) c.as_bytes.ensures.value c.in_ok-write_output-in-Some.ensures.made in
+    pictured w new r done c.in-Some.drawn tells made
     c.in_ok-write_output-in-Some.ensures.created c.in_ok-write_output-in-Some.ensures.free c.write_output.ensures.silent.printed
 
 pub returns-in-None-clause-ok : goal.returns-in-None-clause-ok
