@@ -148,14 +148,17 @@ fn refuse_without_memory(rt: &HostRuntime) -> ExitCode {
 }
 
 // Does what the words ask for, and answers the status.
-fn obey(rt: &HostRuntime, alloc: Global, words: &[&str]) -> Result<u8, AllocError> {
+fn obey(rt: &HostRuntime, alloc: Global, words: &[&str]) -> u8 {
     let line = command_line(alloc, words);
     let failures = Failures::new(alloc);
     let progress = Progress::new();
     let (lines, name) = lines_of(rt, &line);
-    let noted = Noted::new(lines, name.to_string(alloc)?, &failures);
+    let Ok(name) = name.to_string(alloc) else {
+        return refuse_memory(&mut Device::new(lines));
+    };
+    let noted = Noted::new(lines, name, &failures);
     let Ok(buffer) = BufWriter::with_capacity(alloc, BUFFER_SIZE, noted) else {
-        return Err(AllocError);
+        return refuse_memory(&mut Device::new(lines));
     };
     let out = Device::new(buffer);
     let mut host = ProgramHost::new(rt, alloc, rt.stdout(), out, &progress, &failures);
@@ -172,7 +175,7 @@ fn obey(rt: &HostRuntime, alloc: Global, words: &[&str]) -> Result<u8, AllocErro
         Err(_) => Err(Stop::Unprinted),
     };
     tell_cause(rt, alloc, &line, why, failure.as_ref());
-    Ok(status_after(settled.status, flushed))
+    status_after(settled.status, flushed)
 }
 
 fn main(rt: HostRuntime) -> ExitCode {
@@ -185,8 +188,5 @@ fn main(rt: HostRuntime) -> ExitCode {
     let Ok(views) = views_of(alloc, words.as_slice()) else {
         return refuse_without_memory(&rt);
     };
-    match obey(&rt, alloc, &views) {
-        Ok(status) => ExitCode::from(status),
-        Err(AllocError) => refuse_without_memory(&rt),
-    }
+    ExitCode::from(obey(&rt, alloc, &views))
 }

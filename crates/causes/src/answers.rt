@@ -13,7 +13,8 @@ use std::alloc::AllocError;
 use std::fs::File;
 use std::rt::Files;
 
-const PROTECT: &str = "encode with a greater --max, or send it twice (alcrs join --turns)";
+const PROTECT: &str = "take a greater --max and the FTI in each datagram, against bursts --order \
+    rounds, or send it twice (alcrs join --turns)";
 
 const JOIN: &str = "join it with what came of the same session at another time (alcrs join)";
 
@@ -99,7 +100,7 @@ impl<'a, R: Files<File = File>> Case<'a, R> {
     {
         Ok(Some(format!(in self.alloc;
             "a block has no repair symbol, and whoever misses a datagram of it can't get the \
-            object: take a greater --max"
+            object: take a smaller --block or a greater --max"
         )?))
     }
 

@@ -173,14 +173,6 @@ some_summed who (No reason) h = tt
 pub some_verdict : (who : Identity) (verdict : Verdict) (survey : Option Survey) → IsSurveyOnSome who verdict survey → IsVerdictOnSome who verdict
 some_verdict who verdict survey (ds, f, valid, is, surveyed) = (ds, f, valid, is)
 
--- ---- one of two results
-
-pub of_made : {A E : Type 0} (P : A → Type 0) (checked made : Result A E) (found : A) → checked ≡ Ok found → checked ≡ made → IfOk made P → P found
-of_made P checked made found is made_is h = subst (λ r. IfOk r P) (sym made_is ∙ is) h
-
-pub of_refused : {A E : Type 0} (P : E → Type 0) (checked made : Result A E) (fault : E) → checked ≡ Err fault → checked ≡ made → IfErr made P → P fault
-of_refused P checked made fault is made_is h = subst (λ r. IfErr r P) (sym made_is ∙ is) h
-
 -- of frames that come after the object and the certificate were read
 unchecked_frames : (w : World) (r : CheckRequest) (sound : Bool) (opened : Option (List ℕ)) (object : List ℕ) (z : Certificate)
     → HaveValues w.files (inputs_of (Check r)) (Opened opened ∷ Bytes object ∷ Polynomials z ∷ []) → (sound ≡ false → MayFail w (Reading r.session.now))

@@ -62,7 +62,7 @@ IsUncommitted world output (Err (unwritten.Fault fault)) failure told = told ≡
 IsUncommitted world output (Err unwritten.Writing) failure told =
     IsUnwritten world output failure told
 
--- why a file wasn't made of some bytes, and how many outputs were asked for
+-- why a file wasn't made of some bytes, and whether it was asked for
 abbrev pub IsUnkept : World → World → Output → Fault → Fault → Type 0
 IsUnkept old new output failure told =
     ((told ≡ Memory) × (new.created ≡ old.created))

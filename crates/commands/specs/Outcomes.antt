@@ -148,8 +148,8 @@ pub record IsStopped (old new : World) (r : Request) (text : List ℕ) (fault : 
   pub files : new.files ≡ old.files
   pub created : MayHaveCreated old new r
 
--- what stays untold once printing has failed: more of a session that is shown; a fault of one that
--- is followed, behind this text
+-- what stays untold once printing has failed: more of a session that is shown; of one that is
+-- followed a fault, also that there is no memory, behind this text
 abbrev pub LeavesUntold : World → World → Request → Type 0
 LeavesUntold old new (Show r) = (new.files ≡ old.files) × (new.created ≡ old.created)
 LeavesUntold old new (Follow r) =

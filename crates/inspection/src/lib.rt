@@ -1,7 +1,7 @@
 //! Why a file can't be had, and files looked at again once a command has ended: what one holds
 //! instead of what was wanted. Pipes and devices aren't looked at, as they can't be read again.
-//! Nothing that a command does rests on it, so its calls promise no more than that they end, and
-//! that standard input isn't looked at.
+//! Nothing that a command does rests on it, so of files its calls promise no more than that `-`
+//! isn't looked at.
 //!
 //! - `files`: what a file is instead of a session, and what a certificate begins with.
 //! - `sessions`: where a session's frames stop, what its carriers say, how many blocks are short.

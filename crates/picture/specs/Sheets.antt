@@ -30,7 +30,7 @@ head_text =
     ++ codes "viewBox=\"0 0 2000 1400\" role=\"img\" aria-labelledby=\"title desc\" "
     ++ codes "font-family=\"DejaVu Sans, Verdana, Arial, sans-serif\">\n"
 
--- an SVG, to its last tag, with these numbers and these panels
+-- the beginning of an SVG with its title, these numbers, the kill, these panels, and the last tag
 abbrev pub sheet_text : ℕ → ℕ → ℕ → Option ℕ → List ℕ → List ℕ → List ℕ
 sheet_text margin burst kill block numbers panels =
     head_text ++ codes "<title id=\"title\">yes: " ++ margin_text margin burst

@@ -15,7 +15,7 @@ use std::{fs, io};
 const STAYS: &str = "it is there already, and stays by --no-clobber";
 
 /// Why an input isn't replaced.
-const IS_INPUT: &str = "it is an input of this command, which would be lost";
+const IS_INPUT: &str = "it is an input of this command, and would be lost";
 
 // A new file beside this name, in the place of this file, if there is one.
 fn create_anew<R: Files<File = File>>(

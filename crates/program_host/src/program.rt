@@ -112,12 +112,13 @@ impl<'a, R: Files<File = File>, O: std::io::Write + Drop> ProgramHost<'a, R, O> 
         })
     }
 
-    /// From now on no output replaces an input that the request needs beside it. What a command
-    /// makes of one file, as `drop` does, may replace that.
+    /// From now on no output replaces an input that it isn't made of, as the object that is checked
+    /// or sent. What a command makes of one file, as `drop` of a session, may replace that.
     pub fn guard(&mut self, request: &Request<'_>)
         ensures { self.new.out ≡ self.old.out }
     {
         self.guarded = match request {
+            Request::Drop(drop) => [self.id_of(drop.places_file), None, None],
             Request::Check(_) | Request::Twin(_) | Request::Encode(_) | Request::Certify(_) => [
                 self.id_of(request.session()),
                 self.id_of(request.object()),
@@ -128,7 +129,12 @@ impl<'a, R: Files<File = File>, O: std::io::Write + Drop> ProgramHost<'a, R, O> 
     }
 
     fn id_of(&self, name: Option<&str>) -> Option<FileId> {
-        FileId::of_name(self.rt, name?)
+        let name = name?;
+        if name == STANDARD_STREAM {
+            FileId::of_name(self.rt, INPUT_DEVICE)
+        } else {
+            FileId::of_name(self.rt, name)
+        }
     }
 
     // Closes a file that isn't kept, and takes it away.

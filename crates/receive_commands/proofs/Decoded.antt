@@ -132,10 +132,6 @@ may_write (Some held) r content s given placed =
     let w = rw given.2 at placed in
     (given.0, given.1, (w.0, w.1.framed, (readings_of w.0, w.1.indexed.read, s.indexed.fti, w.1.indexed.received.clean, w.1.full)))
 
--- why the object isn't written
-pub because_unread : (old new : World) (r : DecodeRequest) (w : Result ℕ Unwritten) → IfErr w (IsWriteBroken old r.session.now) → (f : told.Fault) → w ≡ Err (unwritten.Fault f) → IsBecause old new (Decode r) [] f
-because_unread old new r w why f is = by_unread old new (Decode r) [] f (inl (subst (λ (x : Result ℕ Unwritten). IfErr x (IsWriteBroken old r.session.now)) is why))
-
 nothing_held : (files : Option Files) (name : List ℕ) → Holds files name (λ bytes. None ≡ Some bytes) → files ≡ None
 nothing_held None name h = refl
 nothing_held (Some held) name h = absurd (let e = h.2 in cc)

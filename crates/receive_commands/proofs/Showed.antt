@@ -2,7 +2,7 @@
 use Rattle.std.proofs.Common.{◌≡◌, ◌≢◌, ◌≤◌, ◌+◌, ◌∙◌, ℕ, Bool, List, [], ◌∷◌, ◌++◌, length, Option, Some, None, Result, Ok, Err, false, inl, inr, refl, sym, ap, subst, arith}
 use Rattle.std.proofs.lemmas.List.{append-nil, length-append}
 use Rattle.std.specs.Prelude.{IfErr, IfSome}
-use Rattle.std.specs.Io.KnownBytes.{Keeps, Consumes, Appends}
+use Rattle.std.specs.Io.KnownBytes.{Consumes, Appends}
 use Rattle.session.specs.Extents.{AreFrames}
 use Rattle.session.specs.Frames.{frame, most_bytes, HasRead, IsReadFault, StopsAt}
 use Rattle.session.proofs.Copies.{session_fault}
@@ -37,13 +37,6 @@ keeps old mid new first second =
 
 pub keeps_all : (w : World) → KeepsFiles w w
 keeps_all w = record { files = refl; refused = refl; created = refl }
-
--- what was printed stays so as it is passed on
-pub still_printed : (a b c : Option (List ℕ)) (text : List ℕ) → Appends a b text → Keeps b c → Appends a c text
-still_printed None b c text p q = tt
-still_printed (Some x) None c text p q = absurd p
-still_printed (Some x) (Some y) None text p q = absurd q
-still_printed (Some x) (Some y) (Some z) text p q = q ∙ p
 
 nothing_appended : (a : Option (List ℕ)) → Appends a a []
 nothing_appended None = tt

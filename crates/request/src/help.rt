@@ -5,7 +5,8 @@
 pub(crate) const ALCRS: &str =
     "Statuses: 0 done or yes, 1 no or a fault, 2 the command line is refused, 3 too little came, or
 `check` found less to spare than was asked for.
-- as an input is standard input. - as OUT is standard output: the lines go to standard error then.
+`-` as an input is standard input. `-` as OUT is standard output: the lines go to standard error
+then.
 A sentence on standard error may tell the cause. --quiet leaves it out.
 `alcrs COMMAND --help` tells what a command prints. A command that fails prints `fault REASON`.
 

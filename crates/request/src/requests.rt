@@ -55,9 +55,9 @@ pub struct CheckRequest<'a> {
     pub picture: Option<&'a str>,
     /// Whether a yes is told in few lines, without one for each block.
     pub summary: bool,
-    /// At least so many datagrams are to be such that any of them may be missed.
+    /// Any so many datagrams are to be such that they may be missed.
     pub margin: u32,
-    /// At least so many neighbours are to be.
+    /// And any so many neighbours.
     pub burst: u32,
     /// Whether a file that is there under the picture's name stays.
     pub no_clobber: bool,

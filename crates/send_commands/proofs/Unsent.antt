@@ -1,19 +1,15 @@
 -- Why an object isn't sent or certified, once its output was asked for.
-use Rattle.std.proofs.Common.{◌≡◌, ◌≢◌, ◌<◌, ◌⊎◌, ℕ, Bool, false, List, [], Option, Some, None, Result, Err, inl, inr, refl, sym, ap, subst, length}
+use Rattle.std.proofs.Common.{◌≡◌, ◌≢◌, ◌<◌, ◌⊎◌, ℕ, Bool, false, List, [], Option, Some, None, Result, Err, inl, inr, refl, subst, length}
 use Rattle.std.specs.Prelude.{IfErr, IfSome, ⊤}
-use Rattle.std.specs.Borrow.{Bor}
 use Rattle.partition.specs.Fti.{Fti}
 use Rattle.encoder.specs.Sending.{most_symbol_bytes}
-use Rattle.encoder.specs.declared.sending.SendFault.{SendFault}
 use Rattle.encoder.specs.declared.sending.SendFault.TheVariants.{SymbolTooLong, Length, Io, NoMemory}
 use Rattle.request.specs.declared.requests.CertifyRequest.{CertifyRequest}
 use Rattle.request.specs.declared.requests.EncodeRequest.{EncodeRequest}
 use Rattle.request.specs.declared.requests.Request.TheVariants.{Certify, Encode}
 use Rattle.host.specs.World.{Files, World, Holds, MayFail, Reading, GivesFile, LeavesBytes}
-use Rattle.commands.specs.Inputs.{AnObject, Bytes, HasValue, IsUnread}
 use Rattle.commands.specs.Commands.{sized}
 use Rattle.commands.specs.Outcomes.{IsBecause}
-use Rattle.commands.specs.ReadingInputs.{IsObjectBroken}
 use Rattle.commands.specs.declared.fault.Fault.{Fault}
 use Rattle.commands.specs.declared.fault.Fault.TheVariants.{Open, File, Memory, Frame, Certificate, Fti as NoFti, Send, NoPlace}
 use Rattle.commands.specs.declared.output.Unwritten.{Unwritten}
@@ -21,7 +17,7 @@ use Rattle.commands.specs.declared.output.Unwritten.TheVariants as unwritten
 use Rattle.commands.proofs.Stopping.{by_unread, by_refused}
 use Rattle.commands.proofs.Holding.{is_there}
 use Rattle.send_commands.specs.Certifying.{IsUncertified}
-use Rattle.send_commands.specs.Sending.{IsUnsent, IsUnsentFrom}
+use Rattle.send_commands.specs.Sending.{IsUnsentFrom}
 
 -- an object that was read is broken only if reading it is refused
 pub broken : (w : World) (name : List ℕ) (f : Fti) (left : Option (List ℕ)) (sound : Bool) → GivesFile w name left sound → LeavesBytes left f.transfer_length
