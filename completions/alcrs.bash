@@ -23,7 +23,7 @@ _alcrs_files() {
 _alcrs_value() {
     case "$1" in
         --tsi | --toi | --symbol | --block | --max | --fti-every) echo number ;;
-        --picture | --places) echo file ;;
+        --picture | --margin | --burst | --places) echo file ;;
         --order) echo blocks rounds ;;
     esac
 }
@@ -41,7 +41,7 @@ _alcrs() {
         encode) options="--tsi --toi --symbol --block --max --fti-every --order --no-clobber --quiet --help" files=2 ;;
         certify) options="--tsi --toi --symbol --block --max --no-clobber --quiet --help" files=2 ;;
         convert) options="--tsi --toi --no-clobber --quiet --help" files=2 ;;
-        check) options="--tsi --toi --picture --summary --no-clobber --quiet --help" files=3 ;;
+        check) options="--tsi --toi --picture --summary --margin --burst --no-clobber --quiet --help" files=3 ;;
         drop) options="--places --no-clobber --quiet --help" files=2 ;;
         salvage) options="--no-clobber --quiet --help" files=2 ;;
         join) options="--turns --no-clobber --quiet --help" files=any ;;

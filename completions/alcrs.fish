@@ -34,7 +34,7 @@ complete -c alcrs -n __alcrs_has_no_command -a decode \
 complete -c alcrs -n __alcrs_has_no_command -a follow \
     -d 'Takes datagrams one by one, as they come, and writes the object once they give it'
 complete -c alcrs -n __alcrs_has_no_command -a twin \
-    -d 'Writes another object that fits the datagrams, where a block has too few symbols'
+    -d 'Writes another object that fits the datagrams, if a block has too few symbols'
 complete -c alcrs -n __alcrs_has_no_command -a show \
     -d 'Prints a line for each datagram of a session'
 complete -c alcrs -n __alcrs_has_no_command -a help \
@@ -60,7 +60,7 @@ complete -c alcrs -n '__alcrs_command_is encode' -l order -x -a 'blocks rounds' 
 complete -c alcrs -n '__alcrs_command_is encode' -s n -l no-clobber \
     -d 'Keeps a file that is there under the name of OUT, and fails'
 complete -c alcrs -n '__alcrs_command_is encode' -s q -l quiet \
-    -d 'Says no sentence on standard error'
+    -d 'Leaves out the sentences on standard error'
 complete -c alcrs -n '__alcrs_command_is encode' -s h -l help \
     -d 'Print help (see a summary with \'-h\')'
 
@@ -77,7 +77,7 @@ complete -c alcrs -n '__alcrs_command_is certify' -l max -x \
 complete -c alcrs -n '__alcrs_command_is certify' -s n -l no-clobber \
     -d 'Keeps a file that is there under the name of OUT, and fails'
 complete -c alcrs -n '__alcrs_command_is certify' -s q -l quiet \
-    -d 'Says no sentence on standard error'
+    -d 'Leaves out the sentences on standard error'
 complete -c alcrs -n '__alcrs_command_is certify' -s h -l help \
     -d 'Print help (see a summary with \'-h\')'
 
@@ -88,7 +88,7 @@ complete -c alcrs -n '__alcrs_command_is convert' -l toi -x \
 complete -c alcrs -n '__alcrs_command_is convert' -s n -l no-clobber \
     -d 'Keeps a file that is there under the name of OUT, and fails'
 complete -c alcrs -n '__alcrs_command_is convert' -s q -l quiet \
-    -d 'Says no sentence on standard error'
+    -d 'Leaves out the sentences on standard error'
 complete -c alcrs -n '__alcrs_command_is convert' -s h -l help \
     -d 'Print help (see a summary with \'-h\')'
 
@@ -100,10 +100,14 @@ complete -c alcrs -n '__alcrs_command_is check' -l picture -r -F \
     -d 'The SVG file to draw a yes to: symbols to spare, bursts that may be missed'
 complete -c alcrs -n '__alcrs_command_is check' -l summary \
     -d 'Prints few lines at a yes: the weakest block, not all blocks'
+complete -c alcrs -n '__alcrs_command_is check' -l margin -r -F \
+    -d 'Ends with status 3 at a yes if fewer than N datagrams may be missed'
+complete -c alcrs -n '__alcrs_command_is check' -l burst -r -F \
+    -d 'Ends with status 3 at a yes if fewer than N neighbouring datagrams may be missed'
 complete -c alcrs -n '__alcrs_command_is check' -s n -l no-clobber \
     -d 'Keeps a file that is there under the name of OUT, and fails'
 complete -c alcrs -n '__alcrs_command_is check' -s q -l quiet \
-    -d 'Says no sentence on standard error'
+    -d 'Leaves out the sentences on standard error'
 complete -c alcrs -n '__alcrs_command_is check' -s h -l help \
     -d 'Print help (see a summary with \'-h\')'
 
@@ -112,14 +116,14 @@ complete -c alcrs -n '__alcrs_command_is drop' -l places -r -F \
 complete -c alcrs -n '__alcrs_command_is drop' -s n -l no-clobber \
     -d 'Keeps a file that is there under the name of OUT, and fails'
 complete -c alcrs -n '__alcrs_command_is drop' -s q -l quiet \
-    -d 'Says no sentence on standard error'
+    -d 'Leaves out the sentences on standard error'
 complete -c alcrs -n '__alcrs_command_is drop' -s h -l help \
     -d 'Print help (see a summary with \'-h\')'
 
 complete -c alcrs -n '__alcrs_command_is salvage' -s n -l no-clobber \
     -d 'Keeps a file that is there under the name of OUT, and fails'
 complete -c alcrs -n '__alcrs_command_is salvage' -s q -l quiet \
-    -d 'Says no sentence on standard error'
+    -d 'Leaves out the sentences on standard error'
 complete -c alcrs -n '__alcrs_command_is salvage' -s h -l help \
     -d 'Print help (see a summary with \'-h\')'
 
@@ -128,7 +132,7 @@ complete -c alcrs -n '__alcrs_command_is join' -l turns \
 complete -c alcrs -n '__alcrs_command_is join' -s n -l no-clobber \
     -d 'Keeps a file that is there under the name of OUT, and fails'
 complete -c alcrs -n '__alcrs_command_is join' -s q -l quiet \
-    -d 'Says no sentence on standard error'
+    -d 'Leaves out the sentences on standard error'
 complete -c alcrs -n '__alcrs_command_is join' -s h -l help \
     -d 'Print help (see a summary with \'-h\')'
 
@@ -139,7 +143,7 @@ complete -c alcrs -n '__alcrs_command_is decode' -l toi -x \
 complete -c alcrs -n '__alcrs_command_is decode' -s n -l no-clobber \
     -d 'Keeps a file that is there under the name of OUT, and fails'
 complete -c alcrs -n '__alcrs_command_is decode' -s q -l quiet \
-    -d 'Says no sentence on standard error'
+    -d 'Leaves out the sentences on standard error'
 complete -c alcrs -n '__alcrs_command_is decode' -s h -l help \
     -d 'Print help (see a summary with \'-h\')'
 
@@ -150,7 +154,7 @@ complete -c alcrs -n '__alcrs_command_is follow' -l toi -x \
 complete -c alcrs -n '__alcrs_command_is follow' -s n -l no-clobber \
     -d 'Keeps a file that is there under the name of OUT, and fails'
 complete -c alcrs -n '__alcrs_command_is follow' -s q -l quiet \
-    -d 'Says no sentence on standard error'
+    -d 'Leaves out the sentences on standard error'
 complete -c alcrs -n '__alcrs_command_is follow' -s h -l help \
     -d 'Print help (see a summary with \'-h\')'
 
@@ -161,13 +165,13 @@ complete -c alcrs -n '__alcrs_command_is twin' -l toi -x \
 complete -c alcrs -n '__alcrs_command_is twin' -s n -l no-clobber \
     -d 'Keeps a file that is there under the name of OUT, and fails'
 complete -c alcrs -n '__alcrs_command_is twin' -s q -l quiet \
-    -d 'Says no sentence on standard error'
+    -d 'Leaves out the sentences on standard error'
 complete -c alcrs -n '__alcrs_command_is twin' -s h -l help \
     -d 'Print help (see a summary with \'-h\')'
 
 complete -c alcrs -n '__alcrs_command_is show' -l summary \
     -d 'Prints a few lines for each TSI and TOI, not one for each datagram'
 complete -c alcrs -n '__alcrs_command_is show' -s q -l quiet \
-    -d 'Says no sentence on standard error'
+    -d 'Leaves out the sentences on standard error'
 complete -c alcrs -n '__alcrs_command_is show' -s h -l help \
     -d 'Print help (see a summary with \'-h\')'
