@@ -139,8 +139,8 @@ impl<'a, R: Files<File = File>> Wanted<'a, R> {
     }
 
     fn try_create(&self) -> io::Result<Written<'a>> {
-        let (target, part) = self.target()?;
         let name = output_name(self.name.as_str()).text.to_string(self.alloc)?;
+        let (target, part) = self.target()?;
         let noted = Noted::new(target, name, self.failures);
         match BufWriter::with_capacity(self.alloc, BUFFER_SIZE, noted) {
             Ok(writer) => Ok(Written::new(writer, part)),
