@@ -197,12 +197,13 @@ class Call:
         self.file = os.path.basename(path)
 
     def changes_nothing(self):
-        # Without the length of a file that is open the object is held.
-        asks_length = self.name == "statx" and not self.file
+        # Without the length of a file that is open the object is held; and a file that can't be looked
+        # up isn't known as one that no output replaces.
+        looks_up = self.name == "statx" and not self.file.startswith("out")
         # Without a lock, its mark, or a look whether it is still there, a part is written as well.
         is_of_lock = self.name == "flock" or "chmod" in self.name
         is_of_lock = is_of_lock or self.name == "statx" and self.file.startswith("out.part")
-        return self.descriptor == "2" or self.name == "close" or is_of_lock or asks_length
+        return self.descriptor == "2" or self.name == "close" or is_of_lock or looks_up
 
     def creates(self):
         """Whether it is one by which the output is created, which is tried twice."""
