@@ -197,8 +197,8 @@ class Call:
         self.file = os.path.basename(path)
 
     def changes_nothing(self):
-        # Without the length of a file that is open the object is held; and a file that can't be looked
-        # up isn't known as one that no output replaces.
+        # Without the length of a file that is open the object is held; and a file that can't be
+        # looked up isn't known as one that no output replaces.
         looks_up = self.name == "statx" and not self.file.startswith("out")
         # Without a lock, its mark, or a look whether it is still there, a part is written as well.
         is_of_lock = self.name == "flock" or "chmod" in self.name
